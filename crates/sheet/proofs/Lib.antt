@@ -1,0 +1,6 @@
+mod Each
+mod Zero
+mod Decide
+mod Exact
+mod Turns
+mod Judged

@@ -1,0 +1,90 @@
+// The judgement on lent tables, in its order: the first fault decides.
+ghost use mathlib.Core.Path.{_≡_};
+ghost use Prim.Native.Nat.{_+_, _^_, _<_};
+ghost use lib.ListN.{length};
+ghost use Rattle.std.specs.shelf.Lists.{All};
+ghost use Rattle.sheet.specs.Tables.{lent, sizes as sizes-of};
+ghost use Rattle.sheet.specs.Allowed.{Ends-in};
+ghost use Rattle.sheet.specs.Load.{unless, records, record-verdict, counts, listed-verdict, states-verdict, each, part, turns-verdict, judged};
+use crate::refusal::LoadRefusal;
+use crate::refusal::Table;
+use crate::rows::Row;
+use crate::tables::Automaton;
+use crate::tables::Sizes;
+use crate::tables::Tables;
+use crate::tables::TransitionRow;
+
+// Refuses unless the test is met.
+fn require(met: bool, refusal: LoadRefusal) -> Result<(), LoadRefusal>
+    ensures { λ r. ⌜ r ≡ unless met refusal ⌝ }
+{
+    if met { Ok(()) } else { Err(refusal) }
+}
+
+fn judge_counts(sizes: &Sizes) -> Result<(), LoadRefusal>
+    ensures { λ r. ⌜ r ≡ counts (now (sizes .entry)) ⌝ }
+{
+    require(sizes.values <= 128, LoadRefusal::TooMany { table: Table::Values })?;
+    require(sizes.events <= 64, LoadRefusal::TooMany { table: Table::Events })?;
+    require(sizes.automata <= 32, LoadRefusal::TooMany { table: Table::Automata })?;
+    require(sizes.transitions <= 512, LoadRefusal::TooMany { table: Table::Transitions })?;
+    require(sizes.guards <= 1024, LoadRefusal::TooMany { table: Table::Guards })?;
+    require(sizes.actions <= 1024, LoadRefusal::TooMany { table: Table::Actions })?;
+    require(sizes.nodes <= 8192, LoadRefusal::TooMany { table: Table::Nodes })
+}
+
+fn judge_record<R: Row>(table: Table, row: usize, record: &R, sizes: &Sizes) -> Result<(), LoadRefusal>
+    ensures { λ r. ⌜ r ≡ record-verdict table (R·Row .limited (now («record» .entry))) (R·Row .inside (now (sizes .entry)) (now («record» .entry))) row ⌝ }
+{
+    require(record.within_limits(), LoadRefusal::Limit { table, row })?;
+    require(record.inside_tables(sizes), LoadRefusal::Outside { table, row })
+}
+
+fn judge_records<R: Row>(table: Table, rows: &[R], sizes: &Sizes) -> Result<(), LoadRefusal>
+    ensures { λ r. ⌜ r ≡ records table (R·Row .limited) (R·Row .inside (now (sizes .entry))) (now (rows .entry)) ⌝ }
+{
+    for (row, record) in rows.iter().enumerate() {
+        judge_record(table, row, record, sizes)?;
+    }
+    Ok(())
+}
+
+fn judge_transition(automaton: usize, states: u16, transition: usize, row: &TransitionRow) -> Result<(), LoadRefusal>
+    ensures { λ r. ⌜ r ≡ listed-verdict automaton states transition (now (row .entry)) ⌝ }
+{
+    let exist = row.source < states && row.destination < states;
+    require(exist, LoadRefusal::NoListedState { automaton, transition })
+}
+
+// The transitions that an automaton lists, which begin at the number `first`.
+fn judge_listed(automaton: usize, states: u16, first: usize, listed: &[TransitionRow]) -> Result<(), LoadRefusal>
+    requires { ⌜ first + length (now listed) < 2 ^ 64 ⌝ }
+    ensures { λ r. ⌜ r ≡ each (listed-verdict automaton states) first (now (listed .entry)) ⌝ }
+{
+    for (k, row) in listed.iter().enumerate() {
+        judge_transition(automaton, states, first + k, row)?;
+    }
+    Ok(())
+}
+
+// The initial state of an automaton, then the states of the transitions that it lists.
+fn judge_states(number: usize, automaton: &Automaton, transitions: &[TransitionRow]) -> Result<(), LoadRefusal>
+    requires { ⌜ Ends-in (length (now transitions)) (now automaton .transitions) ⌝ }
+    ensures { λ r. ⌜ r ≡ states-verdict (now (transitions .entry)) number (now (automaton .entry)) ⌝ }
+{
+    let states = automaton.states;
+    require(automaton.initial < states, LoadRefusal::NoInitialState { automaton: number })?;
+    let first = automaton.transitions.first as usize;
+    let end = first + automaton.transitions.count as usize;
+    judge_listed(number, states, first, &transitions[first..end])
+}
+
+fn judge_automata(automata: &[Automaton], transitions: &[TransitionRow]) -> Result<(), LoadRefusal>
+    requires { ⌜ All (λ a. Ends-in (length (now transitions)) (a .transitions)) (now automata) ⌝ }
+    ensures { λ r. ⌜ r ≡ each (states-verdict (now (transitions .entry))) 0 (now (automata .entry)) ⌝ }
+{
+    for (number, automaton) in automata.iter().enumerate() {
+        judge_states(number, automaton, transitions)?;
+    }
+    Ok(())
+}
