@@ -1,5 +1,5 @@
 -- The judgement is fine exactly on the allowed tables.
-use mathlib.Core.Path.{_≡_, refl}
+use mathlib.Core.Path.{_≡_, sym}
 use mathlib.Core.Bool.{_&&_}
 use mathlib.Core.List.{List}
 use Prim.Native.Nat.{ℕ, _≤_}
@@ -8,6 +8,8 @@ use lib.Dec.{leb, ltb}
 use lib.ListN.{length}
 use Rattle.std.specs.Orderings.{Decides}
 use Rattle.std.specs.shelf.Lists.{All}
+use Rattle.std.specs.declared.result.Result.the-variants.{Ok}
+use Rattle.std.proofs.shelf.Elements.{all-weaker}
 use Rattle.std.proofs.shelf.Ways.{tells, decides-ltb}
 use Rattle.sheet.specs.declared.tables.Automaton.{Automaton}
 use Rattle.sheet.specs.declared.tables.TransitionRow.{TransitionRow}
@@ -16,7 +18,7 @@ use Rattle.sheet.specs.declared.refusal.Table.the-variants.{Values, Events, Au
 use Rattle.sheet.specs.declared.refusal.LoadRefusal.the-variants.{TooMany, NoInitialState, NoListedState, Turns}
 use Rattle.sheet.specs.Tables.{Lent, sizes}
 use Rattle.sheet.specs.Load.{Verdict, _then_, unless, counts, records, each, listed-verdict, states-verdict, part, all-below, each-once, turns-verdict, judged, value-limits, value-inside, event-limits, event-inside, automaton-limits, automaton-inside, transition-limits, transition-inside, guard-limits, guard-inside, action-limits, action-inside, node-limits, node-inside}
-use Rattle.sheet.specs.Allowed.{Allowed, Counts-allowed, Goes-within, States-exist, Each-once, Value-allowed, Event-allowed, Automaton-allowed, Transition-allowed, Guard-allowed, Action-allowed, Node-allowed}
+use Rattle.sheet.specs.Allowed.{Allowed, Ends-in, Counts-allowed, Goes-within, States-exist, Each-once, Value-allowed, Event-allowed, Automaton-allowed, Transition-allowed, Guard-allowed, Action-allowed, Node-allowed}
 use Rattle.sheet.specs.Exact.{Exactly}
 use Rattle.sheet.proofs.Decide.{value-decides, event-decides, automaton-decides, transition-decides, guard-decides, action-decides, node-decides, goes-decides}
 use Rattle.sheet.proofs.Exact.{then-exactly, unless-exactly, each-exactly, records-exactly, exactly-like}
@@ -37,6 +39,12 @@ counts-exactly n =
               (then-exactly _ _ (unless-exactly (leb (n .guards) 1024) (TooMany Guards) (decides-leb (n .guards) 1024))
                 (then-exactly _ _ (unless-exactly (leb (n .actions) 1024) (TooMany Actions) (decides-leb (n .actions) 1024))
                   (unless-exactly (leb (n .nodes) 8192) (TooMany Nodes) (decides-leb (n .nodes) 8192))))))))
+
+-- automata that passed their judgement list transitions of the table
+pub automata-list : (n : Sizes) (xs : List Automaton) → Ok tt ≡ records Automata automaton-limits (automaton-inside n) xs → All (λ a. Ends-in (n .transitions) (a .transitions)) xs
+automata-list n xs e =
+    all-weaker (Automaton-allowed n) (λ a. Ends-in (n .transitions) (a .transitions)) (λ a h. h .transitions) xs
+      (records-exactly Automata automaton-limits (automaton-inside n) (Automaton-allowed n) (automaton-decides n) xs .0 (sym e))
 
 states-exactly : (ts : List TransitionRow) (k : ℕ) (a : Automaton) → Exactly (states-verdict ts k a) (States-exist ts a)
 states-exactly ts k a =

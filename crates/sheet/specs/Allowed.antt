@@ -3,7 +3,8 @@ use mathlib.Core.Path.{_≡_}
 use mathlib.Core.List.{List}
 use Prim.Native.Nat.{ℕ, zero, suc, _+_, _<_, _≤_}
 use lib.IntN.{ℤ, pos, negsuc}
-use lib.ListN.{length}
+use lib.ListN.{length, getD}
+use mathlib.Core.Bool.{Bool, true, false, cond}
 use Rattle.std.specs.shelf.Lists.{All}
 use Rattle.sheet.specs.declared.tables.Stretch.{Stretch}
 use Rattle.sheet.specs.declared.tables.ValueRow.{ValueRow}
@@ -110,3 +111,9 @@ pub record Allowed (t : Lent) : Type 0 where
   pub nodes : All (Node-allowed (sizes t)) (t .nodes)
   pub states : All (States-exist (t .transitions)) (t .automata)
   pub turns : Each-once (length (t .automata)) (t .turns)
+
+-- the automata that had a turn, as flags: each turn was one of n automata, none had two
+pub record Noted (n : ℕ) (turns : List ℕ) (seen : List Bool) : Type 0 where
+  pub long : length seen ≡ 32
+  pub known : All (λ a. a < n) turns
+  pub flags : (a : ℕ) → a < n → times a turns ≡ cond (getD seen a false) 1 0

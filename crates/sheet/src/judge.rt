@@ -1,10 +1,12 @@
 // The judgement on lent tables, in its order: the first fault decides.
 ghost use mathlib.Core.Path.{_≡_};
-ghost use Prim.Native.Nat.{_+_, _^_, _<_};
-ghost use lib.ListN.{length};
+ghost use mathlib.Core.Bool.{false};
+ghost use Prim.Native.Nat.{_+_, _^_, _<_, _≤_};
+ghost use lib.ListN.{length, replicate};
+ghost use Rattle.std.specs.Orderings.{When, Decides};
 ghost use Rattle.std.specs.shelf.Lists.{All};
 ghost use Rattle.sheet.specs.Tables.{lent, sizes as sizes-of};
-ghost use Rattle.sheet.specs.Allowed.{Ends-in};
+ghost use Rattle.sheet.specs.Allowed.{Ends-in, Each-once, Noted};
 ghost use Rattle.sheet.specs.Load.{unless, records, record-verdict, counts, listed-verdict, states-verdict, each, part, turns-verdict, judged};
 use crate::refusal::LoadRefusal;
 use crate::refusal::Table;
@@ -13,6 +15,13 @@ use crate::tables::Automaton;
 use crate::tables::Sizes;
 use crate::tables::Tables;
 use crate::tables::TransitionRow;
+use crate::rows::ActionRowLimits;
+use crate::rows::AutomatonLimits;
+use crate::rows::EventRowLimits;
+use crate::rows::GuardLimits;
+use crate::rows::NodeLimits;
+use crate::rows::TransitionRowLimits;
+use crate::rows::ValueRowLimits;
 
 // Refuses unless the test is met.
 fn require(met: bool, refusal: LoadRefusal) -> Result<(), LoadRefusal>
@@ -87,4 +96,59 @@ fn judge_automata(automata: &[Automaton], transitions: &[TransitionRow]) -> Resu
         judge_states(number, automaton, transitions)?;
     }
     Ok(())
+}
+
+// Notes which automata have had a turn; false at a turn of no automaton or of one that has had it.
+fn note_turns(turns: &[u16], automata: usize, seen: &mut [bool; 32]) -> bool
+    requires { ⌜ automata ≤ 32 ⌝ }
+    requires { ⌜ now seen ≡ replicate 32 false ⌝ }
+    ensures { λ r. ⌜ When r (Noted automata (now (turns .entry)) (now (seen .exit))) (Each-once automata (now (turns .entry)) → ⊥) ⌝ }
+{
+    for turn in turns {
+        let a = *turn as usize;
+        if a >= automata || seen[a] {
+            return false;
+        }
+        seen[a] = true;
+    }
+    true
+}
+
+fn each_once(turns: &[u16], automata: usize) -> bool
+    requires { ⌜ automata ≤ 32 ⌝ }
+    ensures { λ r. ⌜ Decides r (Each-once automata (now (turns .entry))) ⌝ }
+{
+    let mut seen = [false; 32];
+    if !note_turns(turns, automata, &mut seen) {
+        return false;
+    }
+    for a in 0..automata {
+        if !seen[a] {
+            return false;
+        }
+    }
+    true
+}
+
+fn judge_turns(turns: &[u16], automata: usize) -> Result<(), LoadRefusal>
+    requires { ⌜ automata ≤ 32 ⌝ }
+    ensures { λ r. ⌜ r ≡ turns-verdict automata (now (turns .entry)) ⌝ }
+{
+    require(each_once(turns, automata), LoadRefusal::Turns)
+}
+
+pub fn judge(tables: &Tables) -> Result<(), LoadRefusal>
+    ensures { λ r. ⌜ r ≡ judged (lent (now (tables .entry))) ⌝ }
+{
+    let sizes = tables.sizes();
+    judge_counts(&sizes)?;
+    judge_records(Table::Values, tables.values, &sizes)?;
+    judge_records(Table::Events, tables.events, &sizes)?;
+    judge_records(Table::Automata, tables.automata, &sizes)?;
+    judge_records(Table::Transitions, tables.transitions, &sizes)?;
+    judge_records(Table::Guards, tables.guards, &sizes)?;
+    judge_records(Table::Actions, tables.actions, &sizes)?;
+    judge_records(Table::Nodes, tables.nodes, &sizes)?;
+    judge_automata(tables.automata, tables.transitions)?;
+    judge_turns(tables.turns, tables.automata.len())
 }

@@ -1,5 +1,7 @@
 // The tables that a caller lends to `load`. Every field is a whole number and may hold anything:
 // nothing is known of a lent table until it has been judged.
+ghost use mathlib.Core.Path.{_≡_};
+ghost use Rattle.sheet.specs.Tables.{lent, sizes as sizes-of};
 
 // A stretch of a table: `count` records from number `first` on.
 #[derive(Clone, Copy)]
@@ -93,4 +95,20 @@ pub struct Sizes {
     pub guards: usize,
     pub actions: usize,
     pub nodes: usize,
+}
+
+impl Tables<'_> {
+    pub fn sizes(&self) -> Sizes
+        ensures { λ r. ⌜ r ≡ sizes-of (lent (now (self .entry))) ⌝ }
+    {
+        Sizes {
+            values: self.values.len(),
+            events: self.events.len(),
+            automata: self.automata.len(),
+            transitions: self.transitions.len(),
+            guards: self.guards.len(),
+            actions: self.actions.len(),
+            nodes: self.nodes.len(),
+        }
+    }
 }
