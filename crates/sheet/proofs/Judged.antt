@@ -1,24 +1,29 @@
 -- The judgement is fine exactly on the allowed tables.
-use mathlib.Core.Path.{_≡_, sym}
-use mathlib.Core.Bool.{_&&_}
-use mathlib.Core.List.{List}
+use mathlib.Core.Path.{_≡_, refl, sym, ap, _∙_}
+use mathlib.Core.Bool.{Bool, true, _&&_}
+use mathlib.Core.List.{List, map}
 use Prim.Native.Nat.{ℕ, _≤_}
 use native.Mathlib.Omega.{arith}
 use lib.Dec.{leb, ltb}
 use lib.ListN.{length}
 use Rattle.std.specs.Orderings.{Decides}
 use Rattle.std.specs.shelf.Lists.{All}
-use Rattle.std.specs.declared.result.Result.the-variants.{Ok}
+use Rattle.std.specs.declared.result.Result.the-variants.{Ok, Err}
 use Rattle.std.proofs.shelf.Elements.{all-weaker}
+use Rattle.std.specs.Results.{isOk}
+use Rattle.std.proofs.shelf.Tests.{and-parts}
 use Rattle.std.proofs.shelf.Ways.{tells, decides-ltb}
 use Rattle.sheet.specs.declared.tables.Automaton.{Automaton}
 use Rattle.sheet.specs.declared.tables.TransitionRow.{TransitionRow}
 use Rattle.sheet.specs.declared.tables.Sizes.{Sizes}
 use Rattle.sheet.specs.declared.refusal.Table.the-variants.{Values, Events, Automata, Transitions, Guards, Actions, Nodes}
+use Rattle.sheet.specs.declared.refusal.LoadRefusal.{LoadRefusal}
 use Rattle.sheet.specs.declared.refusal.LoadRefusal.the-variants.{TooMany, NoInitialState, NoListedState, Turns}
 use Rattle.sheet.specs.Tables.{Lent, sizes}
-use Rattle.sheet.specs.Load.{Verdict, _then_, unless, counts, records, each, listed-verdict, states-verdict, part, all-below, each-once, turns-verdict, judged, value-limits, value-inside, event-limits, event-inside, automaton-limits, automaton-inside, transition-limits, transition-inside, guard-limits, guard-inside, action-limits, action-inside, node-limits, node-inside}
+use Rattle.sheet.specs.Load.{Verdict, _then_, unless, counts, records, each, listed-verdict, states-verdict, part, all-below, each-once, turns-verdict, judged, accepts, value-limits, value-inside, event-limits, event-inside, automaton-limits, automaton-inside, transition-limits, transition-inside, guard-limits, guard-inside, action-limits, action-inside, node-limits, node-inside}
 use Rattle.sheet.specs.Allowed.{Allowed, Ends-in, Counts-allowed, Goes-within, States-exist, Each-once, Value-allowed, Event-allowed, Automaton-allowed, Transition-allowed, Guard-allowed, Action-allowed, Node-allowed}
+use Rattle.sheet.specs.Contents.{Contents, written, value-row, event-row, transition-row, action-row}
+use Rattle.sheet.specs.Sheet.{Answered, Accepted}
 use Rattle.sheet.specs.Exact.{Exactly}
 use Rattle.sheet.proofs.Decide.{value-decides, event-decides, automaton-decides, transition-decides, guard-decides, action-decides, node-decides, goes-decides}
 use Rattle.sheet.proofs.Exact.{then-exactly, unless-exactly, each-exactly, records-exactly, exactly-like}
@@ -73,3 +78,32 @@ judged-exactly t =
                     (then-exactly _ _ (records-exactly Nodes node-limits (node-inside n) (Node-allowed n) (node-decides n) (t .nodes))
                       (then-exactly _ _ (each-exactly (states-verdict (t .transitions)) (States-exist (t .transitions)) (states-exactly (t .transitions)) 0 (t .automata))
                         (unless-exactly (all-below (length (t .automata)) (t .turns) && each-once (length (t .automata)) (t .turns)) Turns (turns-decides (length (t .automata)) (t .turns))))))))))))
+
+-- records that are allowed keep their limits
+pub limited : {X : Type 0} (limits inside : X → Bool) (P : X → Type 0) → ((x : X) → Decides (limits x && inside x) (P x)) → (xs : List X) → All P xs → All (λ x. limits x ≡ true) xs
+limited limits inside P d xs h = all-weaker P (λ x. limits x ≡ true) (λ x p. and-parts (limits x) (inside x) (d x .1 p) .0) xs h
+
+-- contents whose records stand for those of the tables
+pub written-is : (t : Lent) (c : Contents)
+    → map value-row (c .values) ≡ t .values → map event-row (c .events) ≡ t .events → c .automata ≡ t .automata → c .turns ≡ t .turns
+    → map transition-row (c .transitions) ≡ t .transitions → c .guards ≡ t .guards → map action-row (c .actions) ≡ t .actions → c .nodes ≡ t .nodes
+    → written c ≡ t
+written-is t c p q r s u v w x =
+    λ i. record { values = p i; events = q i; automata = r i; turns = s i; transitions = u i; guards = v i; actions = w i; nodes = x i }
+
+-- what is written as allowed tables is accepted
+pub accepted-as : (t u : Lent) → Allowed t → u ≡ t → accepts u ≡ true
+accepted-as t u h e = ap accepts e ∙ ap isOk (judged-exactly t .1 h)
+
+-- the two ways in which the judgement ends a load
+pub fine-allowed : (t : Lent) → Ok tt ≡ judged t → Allowed t
+fine-allowed t e = judged-exactly t .0 (sym e)
+
+pub fine-answered : (t : Lent) → Ok tt ≡ judged t → Answered (judged t) (Ok tt)
+fine-answered t e = rw (← e) tt
+
+pub refused-answered : (t : Lent) (e : LoadRefusal) → Err e ≡ judged t → Answered (judged t) (Err e)
+refused-answered t e was = rw (← was) refl
+
+pub refused-accepted : (t : Lent) (e : LoadRefusal) → Err e ≡ judged t → Accepted t (Err e)
+refused-accepted t e was h = let fine : judged t ≡ Ok tt = judged-exactly t .1 h in grind arith

@@ -4,3 +4,4 @@ mod Decide
 mod Exact
 mod Turns
 mod Judged
+mod Typed

@@ -3,3 +3,5 @@ pub mod Answers
 pub mod Load
 pub mod Allowed
 pub mod Exact
+pub mod Contents
+pub mod Sheet

@@ -5,6 +5,7 @@ use Prim.Native.Nat.{ℕ, zero, suc, _+_}
 use lib.Dec.{eqb, leb, ltb}
 use lib.IntN.{ℤ, pos, negsuc}
 use lib.ListN.{length, take, drop}
+use Rattle.std.specs.Results.{isOk}
 use Rattle.std.specs.declared.result.Result.{Result}
 use Rattle.std.specs.declared.result.Result.the-variants.{Ok, Err}
 use Rattle.sheet.specs.declared.tables.Stretch.{Stretch}
@@ -158,3 +159,6 @@ judged t =
     then records Nodes node-limits (node-inside (sizes t)) (t .nodes)
     then each (states-verdict (t .transitions)) 0 (t .automata)
     then turns-verdict (length (t .automata)) (t .turns)
+
+abbrev pub accepts : Lent → Bool
+accepts t = isOk (judged t)

@@ -4,12 +4,14 @@ mod records;
 mod refusal;
 mod rows;
 mod judge;
+mod loaded;
 
 pub use records::Action;
 pub use records::EventKind;
 pub use records::Transition;
 pub use records::Value;
 pub use records::ValueKind;
+pub use loaded::Sheet;
 pub use refusal::LoadRefusal;
 pub use refusal::Table;
 pub use tables::ActionRow;

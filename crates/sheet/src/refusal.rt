@@ -1,4 +1,7 @@
 // Why a sheet was not loaded.
+ghost use mathlib.Core.Path.{_≡_};
+ghost use Rattle.sheet.specs.declared.refusal.LoadRefusal.the-variants.{Memory};
+use std::alloc::AllocError;
 
 // The tables that have limits, in the order in which they are judged.
 #[derive(Clone, Copy, PartialEq, Eq, Debug)]
@@ -28,4 +31,12 @@ pub enum LoadRefusal {
     NoListedState { automaton: usize, transition: usize },
     // The turn list does not have each automaton once.
     Turns,
+}
+
+pub impl From<AllocError> for LoadRefusal as LoadRefusalFromAlloc {
+    ghost converts = { λ _ r. r ≡ Memory };
+
+    fn from(_e: AllocError) -> LoadRefusal {
+        LoadRefusal::Memory
+    }
 }

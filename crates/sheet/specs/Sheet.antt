@@ -1,0 +1,35 @@
+-- A loaded sheet as lists, and what a load promises.
+use mathlib.Core.Path.{_≡_}
+use mathlib.Core.List.{[]}
+use Rattle.std.specs.Of.Vec.{vec-items}
+use Rattle.std.specs.declared.result.Result.the-variants.{Ok, Err}
+use Rattle.sheet.specs.declared.loaded.Sheet.{Sheet}
+use Rattle.sheet.specs.declared.refusal.LoadRefusal.the-variants.{Memory}
+use Rattle.sheet.specs.Tables.{Lent}
+use Rattle.sheet.specs.Load.{Verdict}
+use Rattle.sheet.specs.Allowed.{Allowed}
+use Rattle.sheet.specs.Contents.{Contents, contents-of, written}
+
+abbrev pub contents : Sheet → Contents
+contents s =
+    contents-of (vec-items (s .values)) (vec-items (s .events)) (vec-items (s .automata)) (vec-items (s .turns)) (vec-items (s .transitions)) (vec-items (s .guards)) (vec-items (s .actions)) (vec-items (s .nodes))
+
+-- the sheet with no record
+abbrev pub nothing : Contents
+nothing = contents-of [] [] [] [] [] [] [] []
+
+-- The answer is the judgement's, but that there may be no memory for tables that pass it.
+abbrev pub Answered : Verdict → Verdict → Type 0
+Answered (Ok _) (Ok _) = Unit {0}
+Answered (Ok _) (Err e) = e ≡ Memory
+Answered (Err d) r = r ≡ Err d
+
+-- The sheet then holds just the lent tables, or is as it was.
+abbrev pub Holds : Lent → Sheet → Sheet → Verdict → Type 0
+Holds t before after (Ok _) = written (contents after) ≡ t
+Holds t before after (Err _) = after ≡ before
+
+-- Only allowed tables are accepted, and they are refused only for want of memory.
+abbrev pub Accepted : Lent → Verdict → Type 0
+Accepted t (Ok _) = Allowed t
+Accepted t (Err e) = Allowed t → e ≡ Memory
