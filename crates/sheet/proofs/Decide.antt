@@ -50,8 +50,8 @@ pub guard-decides : (n : Sizes) (r : Guard) → Decides (guard-limits r && guard
 guard-decides n r = expression-decides (n .nodes) (r .nodes)
 
 acts : (n : Sizes) (kind target : ℕ) (s : Stretch)
-     → Decides (cond (eqb kind 0) (eqb (s .first) 0 && eqb (s .count) 0) (eqb kind 1 && expression s) && cond (eqb kind 0) (ltb target (n .events)) (ltb target (n .values) && ends-in s (n .nodes)))
-         (Acts n kind target s)
+    → Decides (cond (eqb kind 0) (eqb (s .first) 0 && eqb (s .count) 0) (eqb kind 1 && expression s) && cond (eqb kind 0) (ltb target (n .events)) (ltb target (n .values) && ends-in s (n .nodes)))
+    (Acts n kind target s)
 acts n zero target s = ((λ e. (grind (arith, tells), grind (arith, tells), grind (arith, tells))), λ h. grind (arith, tells))
 acts n (suc zero) target s =
     ((λ e. (grind (arith, tells), record { some = grind (arith, tells); few = grind (arith, tells); inside = grind (arith, tells) })), λ h. grind (arith, tells))

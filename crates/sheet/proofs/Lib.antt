@@ -5,3 +5,4 @@ mod Exact
 mod Turns
 mod Judged
 mod Typed
+pub mod Whole

@@ -21,9 +21,9 @@ use Rattle.sheet.specs.Allowed.{Each-once, Noted}
 pub turns-decides : (n : ℕ) (turns : List ℕ) → Decides (all-below n turns && each-once n turns) (Each-once n turns)
 turns-decides n turns =
     decides-like _ (λ h. record { known = h .0; once = h .1 }) (λ h. (h .known, h .once))
-      (decides-and (all-below n turns) (each-once n turns)
-        (decides-by-and (λ x. ltb x n) (λ x. x < n) (all-below n) (λ x. decides-ltb x n) refl (λ _ _. refl) turns)
-        (decides-below-and (λ a. eqb (times a turns) 1) (λ a. times a turns ≡ 1) (λ k. each-once k turns) (λ a. decides-eqb (times a turns) 1) refl (λ _. refl) n))
+    (decides-and (all-below n turns) (each-once n turns)
+    (decides-by-and (λ x. ltb x n) (λ x. x < n) (all-below n) (λ x. decides-ltb x n) refl (λ _ _. refl) turns)
+    (decides-below-and (λ a. eqb (times a turns) 1) (λ a. times a turns ≡ 1) (λ k. each-once k turns) (λ a. decides-eqb (times a turns) 1) refl (λ _. refl) n))
 
 pub turns-judged : (n : ℕ) (turns : List ℕ) (b : Bool) → Decides b (Each-once n turns) → unless b Turns ≡ turns-verdict n turns
 turns-judged n turns b d = ap (λ x. unless x Turns) (same-from-decides b (all-below n turns && each-once n turns) d (turns-decides n turns))

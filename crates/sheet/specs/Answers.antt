@@ -34,6 +34,10 @@ refusal (NoInitialState a) = record { number = 3; names = pos (tableNumber Autom
 refusal (NoListedState a t) = record { number = 3; names = pos (tableNumber Automata) ∷ pos a ∷ pos t ∷ [] }
 refusal Turns = record { number = 4; names = [] }
 
+-- the answer of a call that is not refused and names nothing
+abbrev pub fine : Answer
+fine = record { number = 0; names = [] }
+
 abbrev pub answer : Result (Unit {0}) LoadRefusal → Answer
-answer (Ok _) = record { number = 0; names = [] }
+answer (Ok _) = fine
 answer (Err e) = refusal e

@@ -4,4 +4,5 @@ pub mod Load
 pub mod Allowed
 pub mod Exact
 pub mod Contents
+pub mod Whole
 pub mod Sheet

@@ -28,7 +28,6 @@ abbrev pub Verdict : Type 0
 Verdict = Result (Unit {0}) LoadRefusal
 
 infixr 20 _then_
-
 -- one judgement after another: the first refusal stands
 abbrev pub _then_ : Verdict → Verdict → Verdict
 Ok _ then s = s

@@ -1,10 +1,12 @@
 -- A loaded sheet as lists, and what a load promises.
 use mathlib.Core.Path.{_≡_}
+use mathlib.Core.Logic.{_⊎_}
 use mathlib.Core.List.{[]}
 use Rattle.std.specs.Of.Vec.{vec-items}
 use Rattle.std.specs.declared.result.Result.the-variants.{Ok, Err}
 use Rattle.sheet.specs.declared.loaded.Sheet.{Sheet}
 use Rattle.sheet.specs.declared.refusal.LoadRefusal.the-variants.{Memory}
+use Rattle.sheet.specs.Answers.{Answer, fine, refusal}
 use Rattle.sheet.specs.Tables.{Lent}
 use Rattle.sheet.specs.Load.{Verdict}
 use Rattle.sheet.specs.Allowed.{Allowed}
@@ -18,11 +20,16 @@ contents s =
 abbrev pub nothing : Contents
 nothing = contents-of [] [] [] [] [] [] [] []
 
--- The answer is the judgement's, but that there may be no memory for tables that pass it.
-abbrev pub Answered : Verdict → Verdict → Type 0
-Answered (Ok _) (Ok _) = Unit {0}
-Answered (Ok _) (Err e) = e ≡ Memory
-Answered (Err d) r = r ≡ Err d
+-- In numbers: the answer is the judgement's, but that there may be no memory for tables that pass it.
+abbrev pub Answered : Verdict → Answer → Type 0
+Answered (Ok _) a = (a ≡ fine) ⊎ (a ≡ refusal Memory)
+Answered (Err e) a = a ≡ refusal e
+
+-- The same of the refusal itself.
+abbrev pub Decided : Verdict → Verdict → Type 0
+Decided (Ok _) (Ok _) = Unit {0}
+Decided (Ok _) (Err e) = e ≡ Memory
+Decided (Err d) r = r ≡ Err d
 
 -- The sheet then holds just the lent tables, or is as it was.
 abbrev pub Holds : Lent → Sheet → Sheet → Verdict → Type 0

@@ -10,18 +10,18 @@ ghost use Rattle.sheet.specs.Allowed.{Ends-in, Each-once, Noted};
 ghost use Rattle.sheet.specs.Load.{unless, records, record-verdict, counts, listed-verdict, states-verdict, each, part, turns-verdict, judged};
 use crate::refusal::LoadRefusal;
 use crate::refusal::Table;
-use crate::rows::Row;
-use crate::tables::Automaton;
-use crate::tables::Sizes;
-use crate::tables::Tables;
-use crate::tables::TransitionRow;
 use crate::rows::ActionRowLimits;
 use crate::rows::AutomatonLimits;
 use crate::rows::EventRowLimits;
 use crate::rows::GuardLimits;
 use crate::rows::NodeLimits;
+use crate::rows::Row;
 use crate::rows::TransitionRowLimits;
 use crate::rows::ValueRowLimits;
+use crate::tables::Automaton;
+use crate::tables::Sizes;
+use crate::tables::Tables;
+use crate::tables::TransitionRow;
 
 // Refuses unless the test is met.
 fn require(met: bool, refusal: LoadRefusal) -> Result<(), LoadRefusal>
@@ -33,20 +33,63 @@ fn require(met: bool, refusal: LoadRefusal) -> Result<(), LoadRefusal>
 fn judge_counts(sizes: &Sizes) -> Result<(), LoadRefusal>
     ensures { λ r. ⌜ r ≡ counts (now (sizes .entry)) ⌝ }
 {
-    require(sizes.values <= 128, LoadRefusal::TooMany { table: Table::Values })?;
-    require(sizes.events <= 64, LoadRefusal::TooMany { table: Table::Events })?;
-    require(sizes.automata <= 32, LoadRefusal::TooMany { table: Table::Automata })?;
-    require(sizes.transitions <= 512, LoadRefusal::TooMany { table: Table::Transitions })?;
-    require(sizes.guards <= 1024, LoadRefusal::TooMany { table: Table::Guards })?;
-    require(sizes.actions <= 1024, LoadRefusal::TooMany { table: Table::Actions })?;
-    require(sizes.nodes <= 8192, LoadRefusal::TooMany { table: Table::Nodes })
+    require(
+        sizes.values <= 128,
+        LoadRefusal::TooMany {
+            table: Table::Values,
+        },
+    )?;
+    require(
+        sizes.events <= 64,
+        LoadRefusal::TooMany {
+            table: Table::Events,
+        },
+    )?;
+    require(
+        sizes.automata <= 32,
+        LoadRefusal::TooMany {
+            table: Table::Automata,
+        },
+    )?;
+    require(
+        sizes.transitions <= 512,
+        LoadRefusal::TooMany {
+            table: Table::Transitions,
+        },
+    )?;
+    require(
+        sizes.guards <= 1024,
+        LoadRefusal::TooMany {
+            table: Table::Guards,
+        },
+    )?;
+    require(
+        sizes.actions <= 1024,
+        LoadRefusal::TooMany {
+            table: Table::Actions,
+        },
+    )?;
+    require(
+        sizes.nodes <= 8192,
+        LoadRefusal::TooMany {
+            table: Table::Nodes,
+        },
+    )
 }
 
-fn judge_record<R: Row>(table: Table, row: usize, record: &R, sizes: &Sizes) -> Result<(), LoadRefusal>
+fn judge_record<R: Row>(
+    table: Table,
+    row: usize,
+    record: &R,
+    sizes: &Sizes,
+) -> Result<(), LoadRefusal>
     ensures { λ r. ⌜ r ≡ record-verdict table (R·Row .limited (now («record» .entry))) (R·Row .inside (now (sizes .entry)) (now («record» .entry))) row ⌝ }
 {
     require(record.within_limits(), LoadRefusal::Limit { table, row })?;
-    require(record.inside_tables(sizes), LoadRefusal::Outside { table, row })
+    require(
+        record.inside_tables(sizes),
+        LoadRefusal::Outside { table, row },
+    )
 }
 
 fn judge_records<R: Row>(table: Table, rows: &[R], sizes: &Sizes) -> Result<(), LoadRefusal>
@@ -58,15 +101,31 @@ fn judge_records<R: Row>(table: Table, rows: &[R], sizes: &Sizes) -> Result<(), 
     Ok(())
 }
 
-fn judge_transition(automaton: usize, states: u16, transition: usize, row: &TransitionRow) -> Result<(), LoadRefusal>
+fn judge_transition(
+    automaton: usize,
+    states: u16,
+    transition: usize,
+    row: &TransitionRow,
+) -> Result<(), LoadRefusal>
     ensures { λ r. ⌜ r ≡ listed-verdict automaton states transition (now (row .entry)) ⌝ }
 {
     let exist = row.source < states && row.destination < states;
-    require(exist, LoadRefusal::NoListedState { automaton, transition })
+    require(
+        exist,
+        LoadRefusal::NoListedState {
+            automaton,
+            transition,
+        },
+    )
 }
 
 // The transitions that an automaton lists, which begin at the number `first`.
-fn judge_listed(automaton: usize, states: u16, first: usize, listed: &[TransitionRow]) -> Result<(), LoadRefusal>
+fn judge_listed(
+    automaton: usize,
+    states: u16,
+    first: usize,
+    listed: &[TransitionRow],
+) -> Result<(), LoadRefusal>
     requires { ⌜ first + length (now listed) < 2 ^ 64 ⌝ }
     ensures { λ r. ⌜ r ≡ each (listed-verdict automaton states) first (now (listed .entry)) ⌝ }
 {
@@ -77,12 +136,19 @@ fn judge_listed(automaton: usize, states: u16, first: usize, listed: &[Transitio
 }
 
 // The initial state of an automaton, then the states of the transitions that it lists.
-fn judge_states(number: usize, automaton: &Automaton, transitions: &[TransitionRow]) -> Result<(), LoadRefusal>
+fn judge_states(
+    number: usize,
+    automaton: &Automaton,
+    transitions: &[TransitionRow],
+) -> Result<(), LoadRefusal>
     requires { ⌜ Ends-in (length (now transitions)) (now automaton .transitions) ⌝ }
     ensures { λ r. ⌜ r ≡ states-verdict (now (transitions .entry)) number (now (automaton .entry)) ⌝ }
 {
     let states = automaton.states;
-    require(automaton.initial < states, LoadRefusal::NoInitialState { automaton: number })?;
+    require(
+        automaton.initial < states,
+        LoadRefusal::NoInitialState { automaton: number },
+    )?;
     let first = automaton.transitions.first as usize;
     let end = first + automaton.transitions.count as usize;
     judge_listed(number, states, first, &transitions[first..end])

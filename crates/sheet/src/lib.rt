@@ -1,17 +1,17 @@
 // Shift sheets: the tables that a caller lends, and the sheet that holds them once they are allowed.
-mod tables;
+mod judge;
+mod loaded;
 mod records;
 mod refusal;
 mod rows;
-mod judge;
-mod loaded;
+mod tables;
 
+pub use loaded::Sheet;
 pub use records::Action;
 pub use records::EventKind;
 pub use records::Transition;
 pub use records::Value;
 pub use records::ValueKind;
-pub use loaded::Sheet;
 pub use refusal::LoadRefusal;
 pub use refusal::Table;
 pub use tables::ActionRow;

@@ -4,6 +4,8 @@ ghost use mathlib.Core.Bool.{true};
 ghost use Rattle.std.specs.Of.Vec.{vec-items};
 ghost use Rattle.sheet.specs.Contents.{contents-of, written};
 ghost use Rattle.sheet.specs.Load.{accepts};
+
+mod access;
 mod load;
 
 use crate::records::Action;

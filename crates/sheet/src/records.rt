@@ -83,7 +83,11 @@ pub impl Typed for ValueRow as TypedValue {
             2 => ValueKind::Shared,
             _ => ValueKind::Local { owner: self.owner },
         };
-        Value { kind, a: self.a, b: self.b }
+        Value {
+            kind,
+            a: self.a,
+            b: self.b,
+        }
     }
 }
 
@@ -133,7 +137,10 @@ pub impl Typed for ActionRow as TypedAction {
         if self.kind == 0 {
             Action::Emit { event: self.target }
         } else {
-            Action::Assign { value: self.target, nodes: self.nodes }
+            Action::Assign {
+                value: self.target,
+                nodes: self.nodes,
+            }
         }
     }
 }

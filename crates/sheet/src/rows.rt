@@ -94,7 +94,9 @@ pub impl Row for TransitionRow as TransitionRowLimits {
     }
 
     fn inside_tables(&self, sizes: &Sizes) -> bool {
-        (self.trigger as usize) < sizes.events && self.guards.ends_in(sizes.guards) && self.actions.ends_in(sizes.actions)
+        (self.trigger as usize) < sizes.events
+            && self.guards.ends_in(sizes.guards)
+            && self.actions.ends_in(sizes.actions)
     }
 }
 

@@ -1,23 +1,24 @@
 // Loading: the lent tables are judged first, then copied, and the sheet changes last.
 ghost use mathlib.Core.Path.{_≡_};
 ghost use Rattle.std.specs.Vec.{made};
+ghost use Rattle.sheet.specs.Answers.{answer};
 ghost use Rattle.sheet.specs.Tables.{lent};
 ghost use Rattle.sheet.specs.Load.{judged};
 ghost use Rattle.sheet.specs.Allowed.{Allowed};
 ghost use Rattle.sheet.specs.Contents.{written};
-ghost use Rattle.sheet.specs.Sheet.{contents, nothing, Answered, Holds, Accepted};
+ghost use Rattle.sheet.specs.Sheet.{contents, nothing, Answered, Decided, Holds, Accepted};
 use crate::judge::judge;
 use crate::loaded::Sheet;
-use crate::records::typed_records;
-use crate::refusal::LoadRefusal;
-use crate::tables::Tables;
-use std::alloc::AllocError;
-use std::alloc::Global;
 use crate::records::TypedAction;
 use crate::records::TypedEvent;
 use crate::records::TypedTransition;
 use crate::records::TypedValue;
+use crate::records::typed_records;
+use crate::refusal::LoadRefusal;
 use crate::refusal::LoadRefusalFromAlloc;
+use crate::tables::Tables;
+use std::alloc::AllocError;
+use std::alloc::Global;
 
 impl Sheet {
     // A sheet with no records.
@@ -49,12 +50,22 @@ impl Sheet {
         let guards = Vec::from_slice(heap, tables.guards)?;
         let actions = typed_records(heap, tables.actions)?;
         let nodes = Vec::from_slice(heap, tables.nodes)?;
-        Ok(Sheet { values, events, automata, turns, transitions, guards, actions, nodes })
+        Ok(Sheet {
+            values,
+            events,
+            automata,
+            turns,
+            transitions,
+            guards,
+            actions,
+            nodes,
+        })
     }
 
     // Takes in the lent tables if they are allowed. A refusal leaves the sheet as it was.
     pub fn load(&mut self, heap: Global, tables: &Tables) -> Result<(), LoadRefusal>
-        ensures answer { λ r. ⌜ Answered (judged (lent (now (tables .entry)))) r ⌝ }
+        ensures answer { λ r. ⌜ Answered (judged (lent (now (tables .entry)))) (answer r) ⌝ }
+        ensures decided { λ r. ⌜ Decided (judged (lent (now (tables .entry)))) r ⌝ }
         ensures holds { λ r. ⌜ Holds (lent (now (tables .entry))) (now (self .entry)) (now (self .exit)) r ⌝ }
         ensures accepted { λ r. ⌜ Accepted (lent (now (tables .entry))) r ⌝ }
     {

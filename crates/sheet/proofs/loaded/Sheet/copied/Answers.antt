@@ -26,7 +26,9 @@ typed-records-requires-4 c κs =
     limited action-limits (action-inside n) (Action-allowed n) (action-decides n) (c .args .tables .now .actions .now) (c .pre .actions)
 
 pub ghost-result : need.ghost-result
-ghost-result c =
-    (accepted-as (lent (c .args .tables .now)) _ (c .pre)
+ghost-result c = (
+  accepted-as (lent (c .args .tables .now)) _ (c .pre)
       (written-is (lent (c .args .tables .now)) _ (c .in-Continue-values .ensures tt) (c .in-Continue-events .ensures tt) (c .in-Continue-automata .ensures tt .made .0) (c .in-Continue-turns .ensures tt .made .0)
-        (c .in-Continue-transitions .ensures tt) (c .in-Continue-guards .ensures tt .made .0) (c .in-Continue-actions .ensures tt) (c .in-Continue-nodes .ensures tt .made .0)), tt)
+      (c .in-Continue-transitions .ensures tt) (c .in-Continue-guards .ensures tt .made .0) (c .in-Continue-actions .ensures tt) (c .in-Continue-nodes .ensures tt .made .0)),
+  tt,
+)
