@@ -1,8 +1,3 @@
-mod Each
-mod Zero
-mod Decide
-mod Exact
-mod Turns
-mod Judged
 mod Typed
+mod Loads
 pub mod Whole

@@ -1,26 +1,22 @@
 -- Every loaded sheet is whole: its tables are written as accepted ones.
 use mathlib.Core.Path.{_≡_, refl, sym, ap, subst, _∙_}
-use mathlib.Core.Bool.{Bool, true}
 use mathlib.Core.List.{List, [], _∷_, map}
 use Prim.Native.Nat.{ℕ, _<_, _≤_}
-use native.Mathlib.Omega.{arith}
 use lib.ListN.{length, take, drop}
-use Rattle.std.specs.Results.{isOk}
-use Rattle.std.specs.declared.result.Result.the-variants.{Ok, Err}
 use Rattle.std.specs.shelf.Lists.{All}
 use Rattle.std.proofs.shelf.Elements.{every-from-all}
 use Rattle.std.proofs.shelf.Lists.{length-map, take-map, drop-map}
-use Rattle.sheet.specs.declared.tables.Automaton.{Automaton}
-use Rattle.sheet.specs.declared.tables.Sizes.{Sizes}
+use Rattle.tables.specs.declared.Automaton.{Automaton}
+use Rattle.tables.specs.declared.Sizes.{Sizes}
 use Rattle.sheet.specs.declared.records.Transition.{Transition}
 use Rattle.sheet.specs.declared.loaded.Sheet.{Sheet}
-use Rattle.sheet.specs.Tables as tables
-use Rattle.sheet.specs.Load.{Verdict, accepts, judged, part}
-use Rattle.sheet.specs.Allowed.{Allowed, Value-allowed, Automaton-allowed, Transition-allowed, Guard-allowed, Action-allowed, Node-allowed, Counts-allowed, States-exist, Goes-within}
+use Rattle.tables.specs.Tables as tables
+use Rattle.tables.specs.Load.{part}
+use Rattle.tables.specs.Allowed.{Allowed, Value-allowed, Automaton-allowed, Transition-allowed, Guard-allowed, Action-allowed, Node-allowed, Counts-allowed, States-exist, Goes-within}
 use Rattle.sheet.specs.Contents.{Contents, sizes, written, value-row, event-row, transition-row, action-row}
 use Rattle.sheet.specs.Sheet.{contents}
 use Rattle.sheet.specs.Whole.{Whole, Automaton-whole, Between, Handed}
-use Rattle.sheet.proofs.Judged.{judged-exactly}
+use Rattle.tables.proofs.Judged.{accepts-decides}
 
 from-map : {X Y : Type 0} (P : Y → Type 0) (f : X → Y) (xs : List X) → All P (map f xs) → All (λ x. P (f x)) xs
 from-map P f [] h = tt
@@ -69,12 +65,8 @@ whole-allowed c h =
       nodes = subst (λ (n : Sizes). All (Node-allowed n) (c .nodes)) e (h .nodes);
     }
 
-fine : (v : Verdict) → isOk v ≡ true → v ≡ Ok tt
-fine (Ok u) e = refl
-fine (Err x) e = grind arith
-
 pub whole : (s : Sheet) → Whole (contents s)
-whole s = whole-allowed (contents s) (judged-exactly (written (contents s)) .0 (fine (judged (written (contents s))) (s .allowed)))
+whole s = whole-allowed (contents s) (accepts-decides (written (contents s)) .0 (s .allowed))
 
 pub handed : {X : Type 0} (P : X → Type 0) (most : ℕ) (table r : List X) → length table ≤ most → All P table → r ≡ table → Handed P most table r
 handed P most table r few all e = record {

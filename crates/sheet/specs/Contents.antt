@@ -3,22 +3,22 @@ use mathlib.Core.Bool.{cond}
 use mathlib.Core.List.{List, map}
 use Prim.Native.Nat.{ℕ}
 use lib.ListN.{length}
-use Rattle.sheet.specs.declared.tables.Stretch.{Stretch}
-use Rattle.sheet.specs.declared.tables.ValueRow.{ValueRow}
-use Rattle.sheet.specs.declared.tables.EventRow.{EventRow}
-use Rattle.sheet.specs.declared.tables.Automaton.{Automaton}
-use Rattle.sheet.specs.declared.tables.TransitionRow.{TransitionRow}
-use Rattle.sheet.specs.declared.tables.Guard.{Guard}
-use Rattle.sheet.specs.declared.tables.ActionRow.{ActionRow}
-use Rattle.sheet.specs.declared.tables.Node.{Node}
-use Rattle.sheet.specs.declared.tables.Sizes.{Sizes}
+use Rattle.tables.specs.declared.Stretch.{Stretch}
+use Rattle.tables.specs.declared.ValueRow.{ValueRow}
+use Rattle.tables.specs.declared.EventRow.{EventRow}
+use Rattle.tables.specs.declared.Automaton.{Automaton}
+use Rattle.tables.specs.declared.TransitionRow.{TransitionRow}
+use Rattle.tables.specs.declared.Guard.{Guard}
+use Rattle.tables.specs.declared.ActionRow.{ActionRow}
+use Rattle.tables.specs.declared.Node.{Node}
+use Rattle.tables.specs.declared.Sizes.{Sizes}
 use Rattle.sheet.specs.declared.records.Value.{Value}
 use Rattle.sheet.specs.declared.records.ValueKind as valueKind
 use Rattle.sheet.specs.declared.records.EventKind as eventKind
 use Rattle.sheet.specs.declared.records.Transition.{Transition}
 use Rattle.sheet.specs.declared.records.Action.{Action}
 use Rattle.sheet.specs.declared.records.Action.the-variants.{Emit, Assign}
-use Rattle.sheet.specs.Tables.{Lent}
+use Rattle.tables.specs.Tables.{Lent}
 
 pub record Contents : Type 0 where
   pub values : List Value

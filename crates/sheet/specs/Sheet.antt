@@ -5,11 +5,11 @@ use mathlib.Core.List.{[]}
 use Rattle.std.specs.Of.Vec.{vec-items}
 use Rattle.std.specs.declared.result.Result.the-variants.{Ok, Err}
 use Rattle.sheet.specs.declared.loaded.Sheet.{Sheet}
-use Rattle.sheet.specs.declared.refusal.LoadRefusal.the-variants.{Memory}
-use Rattle.sheet.specs.Answers.{Answer, fine, refusal}
-use Rattle.sheet.specs.Tables.{Lent}
-use Rattle.sheet.specs.Load.{Verdict}
-use Rattle.sheet.specs.Allowed.{Allowed}
+use Rattle.tables.specs.declared.LoadRefusal.the-variants.{Memory}
+use Rattle.tables.specs.Answers.{Answer, fine, refusal}
+use Rattle.tables.specs.Tables.{Lent}
+use Rattle.tables.specs.Load.{Verdict}
+use Rattle.tables.specs.Allowed.{Allowed}
 use Rattle.sheet.specs.Contents.{Contents, contents-of, written}
 
 abbrev pub contents : Sheet → Contents

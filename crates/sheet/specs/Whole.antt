@@ -4,13 +4,13 @@ use mathlib.Core.List.{List}
 use Prim.Native.Nat.{ℕ, _<_, _≤_}
 use lib.ListN.{length}
 use Rattle.std.specs.shelf.Lists.{All, Every}
-use Rattle.sheet.specs.declared.tables.Automaton.{Automaton}
-use Rattle.sheet.specs.declared.tables.Sizes.{Sizes}
+use Rattle.tables.specs.declared.Automaton.{Automaton}
+use Rattle.tables.specs.declared.Sizes.{Sizes}
 use Rattle.sheet.specs.declared.records.Value.{Value}
 use Rattle.sheet.specs.declared.records.Transition.{Transition}
 use Rattle.sheet.specs.declared.records.Action.{Action}
-use Rattle.sheet.specs.Load.{part}
-use Rattle.sheet.specs.Allowed.{Value-allowed, Automaton-allowed, Transition-allowed, Guard-allowed, Action-allowed, Node-allowed, Counts-allowed, Each-once}
+use Rattle.tables.specs.Load.{part}
+use Rattle.tables.specs.Allowed.{Value-allowed, Automaton-allowed, Transition-allowed, Guard-allowed, Action-allowed, Node-allowed, Counts-allowed, Each-once}
 use Rattle.sheet.specs.Contents.{Contents, sizes, value-row, transition-row, action-row}
 
 -- a local's owner is an automaton

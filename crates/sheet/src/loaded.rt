@@ -3,7 +3,7 @@ ghost use mathlib.Core.Path.{_≡_};
 ghost use mathlib.Core.Bool.{true};
 ghost use Rattle.std.specs.Of.Vec.{vec-items};
 ghost use Rattle.sheet.specs.Contents.{contents-of, written};
-ghost use Rattle.sheet.specs.Load.{accepts};
+ghost use Rattle.tables.specs.Load.{accepts};
 
 mod access;
 mod load;
@@ -12,9 +12,9 @@ use crate::records::Action;
 use crate::records::EventKind;
 use crate::records::Transition;
 use crate::records::Value;
-use crate::tables::Automaton;
-use crate::tables::Guard;
-use crate::tables::Node;
+use tables::Automaton;
+use tables::Guard;
+use tables::Node;
 
 // A sheet is the tables of one shift logic. It holds only tables that have passed the judgement of `load`,
 // so every number in it lies inside its table, every listed transition goes between states of its automaton,

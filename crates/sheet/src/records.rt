@@ -5,15 +5,15 @@ ghost use mathlib.Core.List.{map};
 ghost use Rattle.std.specs.Of.Vec.{vec-items};
 ghost use Rattle.std.specs.Vec.{made};
 ghost use Rattle.std.specs.shelf.Lists.{All};
-ghost use Rattle.sheet.specs.Load.{value-limits, event-limits, transition-limits, action-limits};
+ghost use Rattle.tables.specs.Load.{value-limits, event-limits, transition-limits, action-limits};
 ghost use Rattle.sheet.specs.Contents.{value-row, event-row, transition-row, action-row};
-use crate::tables::ActionRow;
-use crate::tables::EventRow;
-use crate::tables::Stretch;
-use crate::tables::TransitionRow;
-use crate::tables::ValueRow;
 use std::alloc::AllocError;
 use std::alloc::Global;
+use tables::ActionRow;
+use tables::EventRow;
+use tables::Stretch;
+use tables::TransitionRow;
+use tables::ValueRow;
 
 #[derive(Clone, Copy)]
 pub enum ValueKind {

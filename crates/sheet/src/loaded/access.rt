@@ -1,7 +1,7 @@
 // What a loaded sheet holds, table by table, with the facts by which a user indexes one table by another.
 ghost use mathlib.Core.Path.{_≡_};
 ghost use lib.ListN.{length};
-ghost use Rattle.sheet.specs.Allowed.{Guard-allowed, Node-allowed, Each-once};
+ghost use Rattle.tables.specs.Allowed.{Guard-allowed, Node-allowed, Each-once};
 ghost use Rattle.sheet.specs.Contents.{sizes};
 ghost use Rattle.sheet.specs.Sheet.{contents};
 ghost use Rattle.sheet.specs.Whole.{Handed, Value-whole, Automaton-whole, Transition-whole, Action-whole};
@@ -10,9 +10,9 @@ use crate::records::Action;
 use crate::records::EventKind;
 use crate::records::Transition;
 use crate::records::Value;
-use crate::tables::Automaton;
-use crate::tables::Guard;
-use crate::tables::Node;
+use tables::Automaton;
+use tables::Guard;
+use tables::Node;
 
 impl Sheet {
     pub fn values(&self) -> &[Value]

@@ -1,24 +1,24 @@
 // Loading: the lent tables are judged first, then copied, and the sheet changes last.
 ghost use mathlib.Core.Path.{_≡_};
 ghost use Rattle.std.specs.Vec.{made};
-ghost use Rattle.sheet.specs.Answers.{answer};
-ghost use Rattle.sheet.specs.Tables.{lent};
-ghost use Rattle.sheet.specs.Load.{judged};
-ghost use Rattle.sheet.specs.Allowed.{Allowed};
+ghost use Rattle.tables.specs.Answers.{answer};
+ghost use Rattle.tables.specs.Tables.{lent};
+ghost use Rattle.tables.specs.Load.{judged};
+ghost use Rattle.tables.specs.Allowed.{Allowed};
 ghost use Rattle.sheet.specs.Contents.{written};
 ghost use Rattle.sheet.specs.Sheet.{contents, nothing, Answered, Decided, Holds, Accepted};
-use crate::judge::judge;
 use crate::loaded::Sheet;
 use crate::records::TypedAction;
 use crate::records::TypedEvent;
 use crate::records::TypedTransition;
 use crate::records::TypedValue;
 use crate::records::typed_records;
-use crate::refusal::LoadRefusal;
-use crate::refusal::LoadRefusalFromAlloc;
-use crate::tables::Tables;
 use std::alloc::AllocError;
 use std::alloc::Global;
+use tables::LoadRefusal;
+use tables::LoadRefusalFromAlloc;
+use tables::Tables;
+use tables::judge;
 
 impl Sheet {
     // A sheet with no records.

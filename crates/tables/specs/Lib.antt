@@ -1,0 +1,5 @@
+pub mod Tables
+pub mod Answers
+pub mod Load
+pub mod Allowed
+pub mod Exact
