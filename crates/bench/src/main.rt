@@ -1,0 +1,27 @@
+// Shows a shift sheet being taken in, and broken ones being refused.
+mod broken;
+mod show;
+mod shuttle;
+
+use sheet::Sheet;
+use std::error::AnyError;
+use tables::LoadRefusalDisplay;
+
+fn run(rt: &LibcRuntime) -> Result<(), AnyError> {
+    let mut sheet = Sheet::empty(rt.alloc());
+    if let Err(why) = sheet.load(rt.alloc(), &shuttle::tables()) {
+        let number = why.number();
+        println!(rt, "the shuttle's sheet is refused with {number}, {why}")?;
+        return Ok(());
+    }
+    println!(rt, "the shuttle's sheet is loaded")?;
+    show::show_sheet(rt, &sheet, &shuttle::called())?;
+    broken::show_refusals(rt, &mut sheet)?;
+    println!(rt, "the shuttle's sheet as it is now")?;
+    show::show_sizes(rt, &sheet)?;
+    Ok(())
+}
+
+fn main(rt: LibcRuntime) -> Result<(), AnyError> {
+    rt.report(run(&rt))
+}
