@@ -1,0 +1,18 @@
+// The bench's cards: examples that the definitions compute, and tests of the public calls at their edges.
+ghost use Rattle.cards.specs.Loads.{Load-cards};
+
+// The cards of load: what the definition of the judgement answers on small tables, sound and broken.
+pub fn load_cards()
+    ensures { λ _. ⌜ Load-cards ⌝ }
+{}
+
+#[cfg(test)]
+mod base;
+#[cfg(test)]
+mod counts;
+#[cfg(test)]
+mod judging;
+#[cfg(test)]
+mod loading;
+#[cfg(test)]
+mod order;
