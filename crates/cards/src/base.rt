@@ -3,7 +3,6 @@ use tables::ActionRow;
 use tables::Automaton;
 use tables::EventRow;
 use tables::Guard;
-use tables::LoadRefusal;
 use tables::Node;
 use tables::Stretch;
 use tables::Tables;

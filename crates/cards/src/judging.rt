@@ -10,7 +10,6 @@ use tables::LoadRefusalDebug;
 use tables::LoadRefusalPartialEq;
 use tables::Node;
 use tables::Stretch;
-use tables::Table;
 use tables::Tables;
 use tables::TransitionRow;
 use tables::ValueRow;

@@ -1,7 +1,6 @@
 // What a sheet holds after a load, and after a refused one.
 use crate::base::*;
 use sheet::Action;
-use sheet::EventKind;
 use sheet::Sheet;
 use sheet::ValueKind;
 use std::test::*;

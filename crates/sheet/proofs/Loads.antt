@@ -1,5 +1,5 @@
 -- The ways in which a load ends.
-use mathlib.Core.Path.{_≡_, refl, sym, ap, _∙_}
+use mathlib.Core.Path.{_≡_, refl, ap, _∙_}
 use mathlib.Core.Logic.{inl, inr}
 use mathlib.Core.Bool.{true}
 use mathlib.Core.List.{map}
@@ -7,14 +7,13 @@ use native.Mathlib.Omega.{arith}
 use Rattle.std.specs.declared.result.Result.the-variants.{Ok, Err}
 use Rattle.tables.specs.declared.LoadRefusal.{LoadRefusal}
 use Rattle.tables.specs.declared.LoadRefusal.the-variants.{Memory}
-use Rattle.tables.specs.Answers.{fine, refusal}
 use Rattle.tables.specs.Tables.{Lent}
 use Rattle.tables.specs.Load.{judged, accepts}
 use Rattle.tables.specs.Allowed.{Allowed}
 use Rattle.tables.specs.Exact.{Exactly}
 use Rattle.tables.proofs.Judged.{accepts-decides}
 use Rattle.sheet.specs.Contents.{Contents, written, value-row, event-row, transition-row, action-row}
-use Rattle.sheet.specs.Sheet.{Answered, Decided, Accepted}
+use Rattle.sheet.specs.Sheet.{Loads}
 
 -- contents whose records stand for those of the tables
 pub written-is : (t : Lent) (c : Contents)
@@ -30,22 +29,12 @@ accepted-as t u h e = ap accepts e ∙ accepts-decides t .1 h
 
 -- after a judgement that is fine
 module _ (t : Lent) (was : Ok tt ≡ judged t) where
-  pub fine-answered : Answered (judged t) fine
-  fine-answered = rw (← was) (inl refl)
+  pub fine-loads : Allowed t → Loads t (Ok tt)
+  fine-loads h = record { answered = rw (← was) (inl refl); decided = rw (← was) tt; accepted = h }
 
-  pub fine-decided : Decided (judged t) (Ok tt)
-  fine-decided = rw (← was) tt
-
-  pub memory-answered : Answered (judged t) (refusal Memory)
-  memory-answered = rw (← was) (inr refl)
-
-  pub memory-decided : Decided (judged t) (Err Memory)
-  memory-decided = rw (← was) refl
+  pub memory-loads : Loads t (Err Memory)
+  memory-loads = record { answered = rw (← was) (inr refl); decided = rw (← was) refl; accepted = λ _. refl }
 
 -- after one that is not
-module _ (t : Lent) (e : LoadRefusal) (was : Err e ≡ judged t) where
-  pub refused-answered : Answered (judged t) (refusal e)
-  refused-answered = rw (← was) refl
-
-  pub refused-decided : Decided (judged t) (Err e)
-  refused-decided = rw (← was) refl
+pub refused-loads : (t : Lent) (e : LoadRefusal) → Err e ≡ judged t → Exactly (Err e) (Allowed t) → Loads t (Err e)
+refused-loads t e was exact = record { answered = rw (← was) refl; decided = rw (← was) refl; accepted = λ h. let never = exact .1 h in grind arith }

@@ -1,7 +1,7 @@
 -- Every loaded sheet is whole: its tables are written as accepted ones.
-use mathlib.Core.Path.{_≡_, refl, sym, ap, subst, _∙_}
+use mathlib.Core.Path.{_≡_, ap, subst, _∙_}
 use mathlib.Core.List.{List, [], _∷_, map}
-use Prim.Native.Nat.{ℕ, _<_, _≤_}
+use Prim.Native.Nat.{ℕ, _≤_}
 use lib.ListN.{length, take, drop}
 use Rattle.std.specs.shelf.Lists.{All}
 use Rattle.std.proofs.shelf.Elements.{every-from-all}
@@ -12,10 +12,10 @@ use Rattle.sheet.specs.declared.records.Transition.{Transition}
 use Rattle.sheet.specs.declared.loaded.Sheet.{Sheet}
 use Rattle.tables.specs.Tables as tables
 use Rattle.tables.specs.Load.{part}
-use Rattle.tables.specs.Allowed.{Allowed, Value-allowed, Automaton-allowed, Transition-allowed, Guard-allowed, Action-allowed, Node-allowed, Counts-allowed, States-exist, Goes-within}
+use Rattle.tables.specs.Allowed.{Allowed, Value-allowed, Automaton-allowed, Transition-allowed, Guard-allowed, Action-allowed, Node-allowed, Counts-allowed, States-exist, Goes-within, Each-once}
 use Rattle.sheet.specs.Contents.{Contents, sizes, written, value-row, event-row, transition-row, action-row}
 use Rattle.sheet.specs.Sheet.{contents}
-use Rattle.sheet.specs.Whole.{Whole, Automaton-whole, Between, Handed}
+use Rattle.sheet.specs.Whole.{Whole, Automaton-whole, Handed, Handed-turns}
 use Rattle.tables.proofs.Judged.{accepts-decides}
 
 from-map : {X Y : Type 0} (P : Y → Type 0) (f : X → Y) (xs : List X) → All P (map f xs) → All (λ x. P (f x)) xs
@@ -74,6 +74,9 @@ handed P most table r few all e = record {
   few = rw e few;
   each = rw e (every-from-all P table all);
 }
+
+pub handed-turns : (n : ℕ) (table r : List ℕ) → Each-once n table → r ≡ table → Handed-turns n table r
+handed-turns n table r once e = record { value = e; once = rw e once }
 
 pub none-asked : {X : Type 0} (xs : List X) → All (λ _. Unit {0}) xs
 none-asked [] = tt

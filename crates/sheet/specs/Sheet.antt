@@ -3,12 +3,14 @@ use mathlib.Core.Path.{_≡_}
 use mathlib.Core.Logic.{_⊎_}
 use mathlib.Core.List.{[]}
 use Rattle.std.specs.Of.Vec.{vec-items}
+use Rattle.std.specs.declared.result.Result.{Result}
 use Rattle.std.specs.declared.result.Result.the-variants.{Ok, Err}
 use Rattle.sheet.specs.declared.loaded.Sheet.{Sheet}
+use Rattle.tables.specs.declared.LoadRefusal.{LoadRefusal}
 use Rattle.tables.specs.declared.LoadRefusal.the-variants.{Memory}
-use Rattle.tables.specs.Answers.{Answer, fine, refusal}
+use Rattle.tables.specs.Answers.{Answer, fine, refusal, answer}
 use Rattle.tables.specs.Tables.{Lent}
-use Rattle.tables.specs.Load.{Verdict}
+use Rattle.tables.specs.Load.{Verdict, judged}
 use Rattle.tables.specs.Allowed.{Allowed}
 use Rattle.sheet.specs.Contents.{Contents, contents-of, written}
 
@@ -31,12 +33,23 @@ Decided (Ok _) (Ok _) = Unit {0}
 Decided (Ok _) (Err e) = e ≡ Memory
 Decided (Err d) r = r ≡ Err d
 
+-- Only allowed tables are accepted, and they are refused only for want of memory.
+abbrev pub Accepted : Lent → Verdict → Type 0
+Accepted t (Ok _) = Allowed t
+Accepted t (Err e) = Allowed t → e ≡ Memory
+
+-- what a load of the tables t answers
+pub record Loads (t : Lent) (r : Verdict) : Type 0 where
+  pub answered : Answered (judged t) (answer r)
+  pub decided : Decided (judged t) r
+  pub accepted : Accepted t r
+
 -- The sheet then holds just the lent tables, or is as it was.
 abbrev pub Holds : Lent → Sheet → Sheet → Verdict → Type 0
 Holds t before after (Ok _) = written (contents after) ≡ t
 Holds t before after (Err _) = after ≡ before
 
--- Only allowed tables are accepted, and they are refused only for want of memory.
-abbrev pub Accepted : Lent → Verdict → Type 0
-Accepted t (Ok _) = Allowed t
-Accepted t (Err e) = Allowed t → e ≡ Memory
+-- A new sheet of the tables t, or the refusal.
+abbrev pub Read : Lent → Result Sheet LoadRefusal → Type 0
+Read t (Ok s) = Loads t (Ok tt) × (written (contents s) ≡ t)
+Read t (Err e) = Loads t (Err e)

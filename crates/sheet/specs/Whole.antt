@@ -49,3 +49,8 @@ pub record Handed {X : Type 0} (P : X → Type 0) (most : ℕ) (table r : List X
   pub value : r ≡ table
   pub few : length r ≤ most
   pub each : Every P r 0 (length r)
+
+-- r is the whole turn list, which has each of n automata once
+pub record Handed-turns (n : ℕ) (table r : List ℕ) : Type 0 where
+  pub value : r ≡ table
+  pub once : Each-once n r

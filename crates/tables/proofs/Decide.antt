@@ -1,12 +1,9 @@
 -- The tests on records say what is allowed.
-use mathlib.Core.Path.{_≡_, refl, sym, _∙_, ap}
-use mathlib.Core.Logic.{_⊎_, inl, inr}
-use mathlib.Core.Bool.{Bool, true, false, not, _&&_, _||_, cond}
-use mathlib.Core.List.{List, [], _∷_}
-use Prim.Native.Nat.{ℕ, zero, suc, _+_, _<_, _≤_}
+use mathlib.Core.Path.{_≡_}
+use mathlib.Core.Bool.{not, _&&_, _||_, cond}
+use Prim.Native.Nat.{ℕ, zero, suc}
 use native.Mathlib.Omega.{arith}
-use borrow.Author.Needs.{needs}
-use lib.Dec.{eqb, leb, ltb}
+use lib.Dec.{eqb, ltb}
 use lib.IntN.{ℤ, pos, negsuc}
 use Rattle.std.specs.Orderings.{Decides}
 use Rattle.std.proofs.shelf.Ways.{tells}
@@ -20,7 +17,7 @@ use Rattle.tables.specs.declared.rows.ActionRow.{ActionRow}
 use Rattle.tables.specs.declared.rows.Node.{Node}
 use Rattle.tables.specs.declared.rows.Sizes.{Sizes}
 use Rattle.tables.specs.Load.{names, ends-in, expression, value-limits, value-inside, event-limits, event-inside, automaton-limits, automaton-inside, transition-limits, transition-inside, guard-limits, guard-inside, action-limits, action-inside, node-limits, node-inside}
-use Rattle.tables.specs.Allowed.{Ends-in, Expression, Names, Owned, Acts, Value-allowed, Event-allowed, Automaton-allowed, Transition-allowed, Guard-allowed, Action-allowed, Node-allowed, Counts-allowed, Goes-within}
+use Rattle.tables.specs.Allowed.{Expression, Names, Owned, Acts, Value-allowed, Event-allowed, Automaton-allowed, Transition-allowed, Guard-allowed, Action-allowed, Node-allowed, Goes-within}
 
 owned : (automata kind owner : ℕ) → Decides ((ltb kind 4 && (eqb kind 3 || eqb owner 0)) && (not (eqb kind 3) || ltb owner automata)) (Owned automata kind owner)
 owned automata zero owner = ((λ e. grind (arith, tells)), λ h. grind (arith, tells))

@@ -19,8 +19,8 @@ use Rattle.tables.specs.declared.rows.Sizes.{Sizes}
 use Rattle.tables.specs.declared.refusal.Table.the-variants.{Values, Events, Automata, Transitions, Guards, Actions, Nodes}
 use Rattle.tables.specs.declared.refusal.LoadRefusal.the-variants.{TooMany, NoInitialState, NoListedState, Turns}
 use Rattle.tables.specs.Tables.{Lent, sizes}
-use Rattle.tables.specs.Load.{Verdict, _then_, unless, counts, records, each, listed-verdict, states-verdict, part, all-below, each-once, turns-verdict, judged, accepts, value-limits, value-inside, event-limits, event-inside, automaton-limits, automaton-inside, transition-limits, transition-inside, guard-limits, guard-inside, action-limits, action-inside, node-limits, node-inside}
-use Rattle.tables.specs.Allowed.{Allowed, Ends-in, Counts-allowed, Goes-within, States-exist, Each-once, Value-allowed, Event-allowed, Automaton-allowed, Transition-allowed, Guard-allowed, Action-allowed, Node-allowed}
+use Rattle.tables.specs.Load.{Verdict, counts, records, listed-verdict, states-verdict, part, all-below, each-once, judged, accepts, value-limits, value-inside, event-limits, event-inside, automaton-limits, automaton-inside, transition-limits, transition-inside, guard-limits, guard-inside, action-limits, action-inside, node-limits, node-inside}
+use Rattle.tables.specs.Allowed.{Allowed, Ends-in, Counts-allowed, Goes-within, States-exist, Value-allowed, Event-allowed, Automaton-allowed, Transition-allowed, Guard-allowed, Action-allowed, Node-allowed}
 use Rattle.tables.specs.Exact.{Exactly}
 use Rattle.tables.proofs.Decide.{value-decides, event-decides, automaton-decides, transition-decides, guard-decides, action-decides, node-decides, goes-decides}
 use Rattle.tables.proofs.Exact.{then-exactly, unless-exactly, each-exactly, records-exactly, exactly-like}

@@ -9,14 +9,14 @@ use native.Mathlib.Omega.{arith}
 use lib.Dec.{eqb, ltb}
 use lib.ListN.{length, getD, set, take, drop, replicate}
 use Rattle.std.specs.Orderings.{Decides}
-use Rattle.std.specs.shelf.Lists.{All}
 use Rattle.std.proofs.shelf.Elements.{all-getD, all-more}
 use Rattle.std.proofs.shelf.Lists.{take-more, take-append-drop, getD-replicate, getD-set-same, getD-set-other, length-set}
 use Rattle.std.proofs.shelf.Tests.{cases-eq, eq-eqb, ne-eqb}
 use Rattle.std.proofs.shelf.Ways.{same-from-decides, decides-ltb, decides-eqb, decides-and, decides-like, decides-by-and, decides-below-and}
 use Rattle.tables.specs.declared.refusal.LoadRefusal.the-variants.{Turns}
 use Rattle.tables.specs.Load.{all-below, each-once, times, unless, turns-verdict}
-use Rattle.tables.specs.Allowed.{Each-once, Noted}
+use Rattle.tables.specs.Allowed.{Each-once}
+use Rattle.tables.specs.Noted.{Noted}
 
 pub turns-decides : (n : ℕ) (turns : List ℕ) → Decides (all-below n turns && each-once n turns) (Each-once n turns)
 turns-decides n turns =

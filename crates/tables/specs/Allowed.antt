@@ -3,8 +3,7 @@ use mathlib.Core.Path.{_≡_}
 use mathlib.Core.List.{List}
 use Prim.Native.Nat.{ℕ, zero, suc, _+_, _<_, _≤_}
 use lib.IntN.{ℤ, pos, negsuc}
-use lib.ListN.{length, getD}
-use mathlib.Core.Bool.{Bool, true, false, cond}
+use lib.ListN.{length}
 use Rattle.std.specs.shelf.Lists.{All}
 use Rattle.tables.specs.declared.rows.Stretch.{Stretch}
 use Rattle.tables.specs.declared.rows.ValueRow.{ValueRow}
@@ -111,9 +110,3 @@ pub record Allowed (t : Lent) : Type 0 where
   pub nodes : All (Node-allowed (sizes t)) (t .nodes)
   pub states : All (States-exist (t .transitions)) (t .automata)
   pub turns : Each-once (length (t .automata)) (t .turns)
-
--- the automata that had a turn, as flags: each turn was one of n automata, none had two
-pub record Noted (n : ℕ) (turns : List ℕ) (seen : List Bool) : Type 0 where
-  pub long : length seen ≡ 32
-  pub known : All (λ a. a < n) turns
-  pub flags : (a : ℕ) → a < n → times a turns ≡ cond (getD seen a false) 1 0

@@ -3,3 +3,4 @@ pub mod Answers
 pub mod Load
 pub mod Allowed
 pub mod Exact
+pub mod Noted

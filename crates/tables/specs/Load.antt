@@ -20,7 +20,7 @@ use Rattle.tables.specs.declared.rows.Sizes.{Sizes}
 use Rattle.tables.specs.declared.refusal.Table.{Table}
 use Rattle.tables.specs.declared.refusal.Table.the-variants.{Values, Events, Automata, Transitions, Guards, Actions, Nodes}
 use Rattle.tables.specs.declared.refusal.LoadRefusal.{LoadRefusal}
-use Rattle.tables.specs.declared.refusal.LoadRefusal.the-variants.{Memory, TooMany, Limit, Outside, NoInitialState, NoListedState, Turns}
+use Rattle.tables.specs.declared.refusal.LoadRefusal.the-variants.{TooMany, Limit, Outside, NoInitialState, NoListedState, Turns}
 use Rattle.tables.specs.Tables.{Lent, sizes}
 
 -- a judgement: fine, or the refusal

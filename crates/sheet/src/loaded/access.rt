@@ -1,10 +1,9 @@
 // What a loaded sheet holds, table by table, with the facts by which a user indexes one table by another.
-ghost use mathlib.Core.Path.{_≡_};
 ghost use lib.ListN.{length};
-ghost use Rattle.tables.specs.Allowed.{Guard-allowed, Node-allowed, Each-once};
+ghost use Rattle.tables.specs.Allowed.{Guard-allowed, Node-allowed};
 ghost use Rattle.sheet.specs.Contents.{sizes};
 ghost use Rattle.sheet.specs.Sheet.{contents};
-ghost use Rattle.sheet.specs.Whole.{Handed, Value-whole, Automaton-whole, Transition-whole, Action-whole};
+ghost use Rattle.sheet.specs.Whole.{Handed, Handed-turns, Value-whole, Automaton-whole, Transition-whole, Action-whole};
 use crate::loaded::Sheet;
 use crate::records::Action;
 use crate::records::EventKind;
@@ -35,8 +34,7 @@ impl Sheet {
 
     // The turn list: the automata in the order in which they react.
     pub fn turns(&self) -> &[u16]
-        ensures value { λ r. ⌜ now r ≡ contents (now (self .entry)) .turns ⌝ }
-        ensures once { λ r. ⌜ Each-once (length (contents (now (self .entry)) .automata)) (now r) ⌝ }
+        ensures { λ r. ⌜ Handed-turns (length (contents (now (self .entry)) .automata)) (contents (now (self .entry)) .turns) (now r) ⌝ }
     {
         self.turns.as_slice()
     }

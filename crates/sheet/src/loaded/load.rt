@@ -1,12 +1,10 @@
 // Loading: the lent tables are judged first, then copied, and the sheet changes last.
 ghost use mathlib.Core.Path.{_≡_};
 ghost use Rattle.std.specs.Vec.{made};
-ghost use Rattle.tables.specs.Answers.{answer};
 ghost use Rattle.tables.specs.Tables.{lent};
-ghost use Rattle.tables.specs.Load.{judged};
 ghost use Rattle.tables.specs.Allowed.{Allowed};
 ghost use Rattle.sheet.specs.Contents.{written};
-ghost use Rattle.sheet.specs.Sheet.{contents, nothing, Answered, Decided, Holds, Accepted};
+ghost use Rattle.sheet.specs.Sheet.{contents, nothing, Loads, Holds, Read};
 use crate::loaded::Sheet;
 use crate::records::TypedAction;
 use crate::records::TypedEvent;
@@ -62,16 +60,22 @@ impl Sheet {
         })
     }
 
-    // Takes in the lent tables if they are allowed. A refusal leaves the sheet as it was.
-    pub fn load(&mut self, heap: Global, tables: &Tables) -> Result<(), LoadRefusal>
-        ensures answer { λ r. ⌜ Answered (judged (lent (now (tables .entry)))) (answer r) ⌝ }
-        ensures decided { λ r. ⌜ Decided (judged (lent (now (tables .entry)))) r ⌝ }
-        ensures holds { λ r. ⌜ Holds (lent (now (tables .entry))) (now (self .entry)) (now (self .exit)) r ⌝ }
-        ensures accepted { λ r. ⌜ Accepted (lent (now (tables .entry))) r ⌝ }
+    // A new sheet with the records of the lent tables, if they are allowed.
+    fn read(heap: Global, tables: &Tables) -> Result<Sheet, LoadRefusal>
+        ensures { λ r. ⌜ Read (lent (now (tables .entry))) r ⌝ }
     {
         judge(tables)?;
-        let loaded = Sheet::copied(heap, tables)?;
-        *self = loaded;
+        let sheet = Sheet::copied(heap, tables)?;
+        Ok(sheet)
+    }
+
+    // Takes in the lent tables if they are allowed. A refusal leaves the sheet as it was.
+    pub fn load(&mut self, heap: Global, tables: &Tables) -> Result<(), LoadRefusal>
+        ensures answer { λ r. ⌜ Loads (lent (now (tables .entry))) r ⌝ }
+        ensures holds { λ r. ⌜ Holds (lent (now (tables .entry))) (now (self .entry)) (now (self .exit)) r ⌝ }
+    {
+        let sheet = Sheet::read(heap, tables)?;
+        *self = sheet;
         Ok(())
     }
 }

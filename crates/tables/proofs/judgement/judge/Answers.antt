@@ -1,7 +1,4 @@
 use Rattle.tables.specs.Tables.{lent}
-use Rattle.tables.specs.Load.{Verdict}
-use Rattle.tables.specs.Allowed.{Allowed}
-use Rattle.tables.specs.Exact.{Exactly}
 use Rattle.tables.proofs.Judged.{judged-exactly}
 use Rattle.tables.proofs.judgement.judge.Needs as need
 

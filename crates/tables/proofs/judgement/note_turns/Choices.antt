@@ -1,5 +1,5 @@
 use lib.ListN.{take}
-use Rattle.tables.specs.Allowed.{Noted}
+use Rattle.tables.specs.Noted.{Noted}
 use Rattle.tables.proofs.judgement.note_turns.Given as given
 
 abbrev pub Inv-loop-turn : given.InvT-loop-turn

@@ -1,5 +1,6 @@
+use borrow.Author.Needs.{needs}
 use Rattle.sheet.proofs.Whole.{whole, handed, none-asked}
 use Rattle.sheet.proofs.loaded.Sheet.events.Needs as need
 
 pub returns : need.returns
-returns c = handed _ 64 _ _ (whole (c .args .self .now) .counts .events) (none-asked _) (c .as-slice .ensures .value)
+returns c = handed _ 64 _ _ (whole (c .args .self .now) .counts .events) (none-asked _) (search needs)

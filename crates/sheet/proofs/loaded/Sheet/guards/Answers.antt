@@ -1,5 +1,6 @@
+use borrow.Author.Needs.{needs}
 use Rattle.sheet.proofs.Whole.{whole, handed}
 use Rattle.sheet.proofs.loaded.Sheet.guards.Needs as need
 
 pub returns : need.returns
-returns c = handed _ 1024 _ _ (whole (c .args .self .now) .counts .guards) (whole (c .args .self .now) .guards) (c .as-slice .ensures .value)
+returns c = handed _ 1024 _ _ (whole (c .args .self .now) .counts .guards) (whole (c .args .self .now) .guards) (search needs)

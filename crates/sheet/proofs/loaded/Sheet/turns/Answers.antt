@@ -1,5 +1,6 @@
-use Rattle.sheet.proofs.Whole.{whole}
+use borrow.Author.Needs.{needs}
+use Rattle.sheet.proofs.Whole.{whole, handed-turns}
 use Rattle.sheet.proofs.loaded.Sheet.turns.Needs as need
 
 pub returns : need.returns
-returns c = record { value = c .as-slice .ensures .value; once = rw (c .as-slice .ensures .value) (whole (c .args .self .now) .turns) }
+returns c = handed-turns _ _ _ (whole (c .args .self .now) .turns) (search needs)
