@@ -9,6 +9,8 @@ pub fn load_cards()
 #[cfg(test)]
 mod base;
 #[cfg(test)]
+mod by_hand;
+#[cfg(test)]
 mod counts;
 #[cfg(test)]
 mod judging;

@@ -1,3 +1,4 @@
+mod Alone
 mod Typed
 mod Loads
 pub mod Whole

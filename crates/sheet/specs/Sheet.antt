@@ -44,12 +44,17 @@ pub record Loads (t : Lent) (r : Verdict) : Type 0 where
   pub decided : Decided (judged t) r
   pub accepted : Accepted t r
 
+-- the contents are written as the tables t, and no other contents are
+pub record Stands-for (c : Contents) (t : Lent) : Type 0 where
+  pub same : written c ≡ t
+  pub alone : (d : Contents) → written d ≡ t → d ≡ c
+
 -- The sheet then holds just the lent tables, or is as it was.
 abbrev pub Holds : Lent → Sheet → Sheet → Verdict → Type 0
-Holds t before after (Ok _) = written (contents after) ≡ t
+Holds t before after (Ok _) = Stands-for (contents after) t
 Holds t before after (Err _) = after ≡ before
 
 -- A new sheet of the tables t, or the refusal.
 abbrev pub Read : Lent → Result Sheet LoadRefusal → Type 0
-Read t (Ok s) = Loads t (Ok tt) × (written (contents s) ≡ t)
+Read t (Ok s) = Loads t (Ok tt) × Stands-for (contents s) t
 Read t (Err e) = Loads t (Err e)

@@ -1,6 +1,7 @@
 use mathlib.Core.Path.{refl}
 use Rattle.std.proofs.shelf.Results.{err-from-errBy}
 use Rattle.tables.specs.Tables.{lent}
+use Rattle.sheet.proofs.Alone.{stands-for}
 use Rattle.sheet.proofs.Loads.{fine-loads, memory-loads, refused-loads}
 use Rattle.sheet.proofs.loaded.Sheet.read.Needs as need
 
@@ -21,4 +22,4 @@ returns-in-Break-sheet c =
 pub returns : need.returns
 returns c =
     let made = c .in-Continue-judge .ensures tt in
-    (fine-loads (lent (c .args .tables .now)) (made .verdict) (made .exact .0 refl), c .in-Continue-sheet .ensures tt)
+    (fine-loads (lent (c .args .tables .now)) (made .verdict) (made .exact .0 refl), stands-for _ _ (c .in-Continue-sheet .ensures tt))
