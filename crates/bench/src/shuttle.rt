@@ -354,509 +354,394 @@ pub const GUARDS: [Guard; 13] = [
     },
 ];
 
-pub const ACTIONS: [ActionRow; 31] = [
-    // 0 the gear's initial actions
-    ActionRow {
-        kind: 1,
-        target: 2,
-        nodes: Stretch {
-            first: 39,
-            count: 1,
-        },
-    },
-    ActionRow {
-        kind: 1,
-        target: 3,
-        nodes: Stretch {
-            first: 39,
-            count: 1,
-        },
-    },
-    // 2 the clutch's initial actions
-    ActionRow {
-        kind: 1,
-        target: 5,
-        nodes: Stretch {
-            first: 39,
-            count: 1,
-        },
-    },
-    ActionRow {
-        kind: 1,
-        target: 6,
-        nodes: Stretch {
-            first: 39,
-            count: 1,
-        },
-    },
-    // 4 to forward
-    ActionRow {
-        kind: 1,
-        target: 2,
-        nodes: Stretch {
-            first: 40,
-            count: 1,
-        },
-    },
-    ActionRow {
-        kind: 1,
-        target: 3,
-        nodes: Stretch {
-            first: 48,
-            count: 2,
-        },
-    },
-    ActionRow {
-        kind: 0,
-        target: 2,
-        nodes: Stretch { first: 0, count: 0 },
-    },
-    // 7 to reverse
-    ActionRow {
-        kind: 1,
-        target: 2,
-        nodes: Stretch {
-            first: 41,
-            count: 1,
-        },
-    },
-    ActionRow {
-        kind: 1,
-        target: 3,
-        nodes: Stretch {
-            first: 48,
-            count: 2,
-        },
-    },
-    ActionRow {
-        kind: 1,
-        target: 4,
-        nodes: Stretch {
-            first: 40,
-            count: 1,
-        },
-    },
-    ActionRow {
-        kind: 0,
-        target: 2,
-        nodes: Stretch { first: 0, count: 0 },
-    },
-    // 11 up
-    ActionRow {
-        kind: 1,
-        target: 2,
-        nodes: Stretch {
-            first: 42,
-            count: 3,
-        },
-    },
-    ActionRow {
-        kind: 1,
-        target: 3,
-        nodes: Stretch {
-            first: 48,
-            count: 2,
-        },
-    },
-    ActionRow {
-        kind: 0,
-        target: 2,
-        nodes: Stretch { first: 0, count: 0 },
-    },
-    // 14 down
-    ActionRow {
-        kind: 1,
-        target: 2,
-        nodes: Stretch {
-            first: 45,
-            count: 3,
-        },
-    },
-    ActionRow {
-        kind: 1,
-        target: 3,
-        nodes: Stretch {
-            first: 48,
-            count: 2,
-        },
-    },
-    ActionRow {
-        kind: 0,
-        target: 2,
-        nodes: Stretch { first: 0, count: 0 },
-    },
-    // 17 forward to neutral
-    ActionRow {
-        kind: 1,
-        target: 2,
-        nodes: Stretch {
-            first: 39,
-            count: 1,
-        },
-    },
-    ActionRow {
-        kind: 1,
-        target: 3,
-        nodes: Stretch {
-            first: 48,
-            count: 2,
-        },
-    },
-    ActionRow {
-        kind: 0,
-        target: 2,
-        nodes: Stretch { first: 0, count: 0 },
-    },
-    // 20 reverse to neutral
-    ActionRow {
-        kind: 1,
-        target: 2,
-        nodes: Stretch {
-            first: 39,
-            count: 1,
-        },
-    },
-    ActionRow {
-        kind: 1,
-        target: 3,
-        nodes: Stretch {
-            first: 48,
-            count: 2,
-        },
-    },
-    ActionRow {
-        kind: 1,
-        target: 4,
-        nodes: Stretch {
-            first: 39,
-            count: 1,
-        },
-    },
-    ActionRow {
-        kind: 0,
-        target: 2,
-        nodes: Stretch { first: 0, count: 0 },
-    },
-    // 24 filling begins
-    ActionRow {
-        kind: 1,
-        target: 6,
-        nodes: Stretch {
-            first: 39,
-            count: 1,
-        },
-    },
-    ActionRow {
-        kind: 1,
-        target: 5,
-        nodes: Stretch {
-            first: 50,
-            count: 1,
-        },
-    },
-    // 26 the clutch is closed
-    ActionRow {
-        kind: 1,
-        target: 5,
-        nodes: Stretch {
-            first: 51,
-            count: 1,
-        },
-    },
-    ActionRow {
-        kind: 0,
-        target: 3,
-        nodes: Stretch { first: 0, count: 0 },
-    },
-    // 28 one step of filling
-    ActionRow {
-        kind: 1,
-        target: 6,
-        nodes: Stretch {
-            first: 52,
-            count: 3,
-        },
-    },
-    ActionRow {
-        kind: 1,
-        target: 5,
-        nodes: Stretch {
-            first: 55,
-            count: 5,
-        },
-    },
-    // 30 the clutch opens
-    ActionRow {
-        kind: 1,
-        target: 5,
-        nodes: Stretch {
-            first: 39,
-            count: 1,
-        },
-    },
-];
+// Nodes: operations of the range language, values that are read, and constants.
+const GREATER: Node = Node {
+    code: 20,
+    argument: 0,
+};
 
+const LESS: Node = Node {
+    code: 18,
+    argument: 0,
+};
+
+const EQUAL: Node = Node {
+    code: 16,
+    argument: 0,
+};
+
+const NOT_EQUAL: Node = Node {
+    code: 17,
+    argument: 0,
+};
+
+const AT_MOST: Node = Node {
+    code: 19,
+    argument: 0,
+};
+
+const AT_LEAST: Node = Node {
+    code: 21,
+    argument: 0,
+};
+
+const ADD: Node = Node {
+    code: 2,
+    argument: 0,
+};
+
+const SUBTRACT: Node = Node {
+    code: 3,
+    argument: 0,
+};
+
+const MULTIPLY: Node = Node {
+    code: 4,
+    argument: 0,
+};
+
+const BYTE: Node = Node {
+    code: 9,
+    argument: 0,
+};
+
+const LEVER: Node = Node {
+    code: 0,
+    argument: 0,
+};
+
+const SPEED: Node = Node {
+    code: 0,
+    argument: 1,
+};
+
+const GEAR: Node = Node {
+    code: 0,
+    argument: 2,
+};
+
+const FILL: Node = Node {
+    code: 0,
+    argument: 6,
+};
+
+const MINUS_ONE: Node = Node {
+    code: 1,
+    argument: -1,
+};
+
+const ZERO: Node = Node {
+    code: 1,
+    argument: 0,
+};
+
+const ONE: Node = Node {
+    code: 1,
+    argument: 1,
+};
+
+const THREE: Node = Node {
+    code: 1,
+    argument: 3,
+};
+
+const EIGHT: Node = Node {
+    code: 1,
+    argument: 8,
+};
+
+const TWO_HUNDRED: Node = Node {
+    code: 1,
+    argument: 200,
+};
+
+const THREE_HUNDRED: Node = Node {
+    code: 1,
+    argument: 300,
+};
+
+const THOUSAND: Node = Node {
+    code: 1,
+    argument: 1000,
+};
+
+// The expressions, one after the other; each comment begins with the number of its first node.
 pub const NODES: [Node; 60] = [
     // 0 lever > 0
-    Node {
-        code: 20,
-        argument: 0,
-    },
-    Node {
-        code: 0,
-        argument: 0,
-    },
-    Node {
-        code: 1,
-        argument: 0,
-    },
+    GREATER,
+    LEVER,
+    ZERO,
     // 3 lever < 0
-    Node {
-        code: 18,
-        argument: 0,
-    },
-    Node {
-        code: 0,
-        argument: 0,
-    },
-    Node {
-        code: 1,
-        argument: 0,
-    },
+    LESS,
+    LEVER,
+    ZERO,
     // 6 speed = 0
-    Node {
-        code: 16,
-        argument: 0,
-    },
-    Node {
-        code: 0,
-        argument: 1,
-    },
-    Node {
-        code: 1,
-        argument: 0,
-    },
+    EQUAL,
+    SPEED,
+    ZERO,
     // 9 lever > gear
-    Node {
-        code: 20,
-        argument: 0,
-    },
-    Node {
-        code: 0,
-        argument: 0,
-    },
-    Node {
-        code: 0,
-        argument: 2,
-    },
+    GREATER,
+    LEVER,
+    GEAR,
     // 12 gear < 8
-    Node {
-        code: 18,
-        argument: 0,
-    },
-    Node {
-        code: 0,
-        argument: 2,
-    },
-    Node {
-        code: 1,
-        argument: 8,
-    },
+    LESS,
+    GEAR,
+    EIGHT,
     // 15 lever < gear
-    Node {
-        code: 18,
-        argument: 0,
-    },
-    Node {
-        code: 0,
-        argument: 0,
-    },
-    Node {
-        code: 0,
-        argument: 2,
-    },
+    LESS,
+    LEVER,
+    GEAR,
     // 18 gear > 1
-    Node {
-        code: 20,
-        argument: 0,
-    },
-    Node {
-        code: 0,
-        argument: 2,
-    },
-    Node {
-        code: 1,
-        argument: 1,
-    },
+    GREATER,
+    GEAR,
+    ONE,
     // 21 lever <= 0
-    Node {
-        code: 19,
-        argument: 0,
-    },
-    Node {
-        code: 0,
-        argument: 0,
-    },
-    Node {
-        code: 1,
-        argument: 0,
-    },
+    AT_MOST,
+    LEVER,
+    ZERO,
     // 24 lever >= 0
-    Node {
-        code: 21,
-        argument: 0,
-    },
-    Node {
-        code: 0,
-        argument: 0,
-    },
-    Node {
-        code: 1,
-        argument: 0,
-    },
+    AT_LEAST,
+    LEVER,
+    ZERO,
     // 27 gear is not 0
-    Node {
-        code: 17,
-        argument: 0,
-    },
-    Node {
-        code: 0,
-        argument: 2,
-    },
-    Node {
-        code: 1,
-        argument: 0,
-    },
+    NOT_EQUAL,
+    GEAR,
+    ZERO,
     // 30 fill = 3
-    Node {
-        code: 16,
-        argument: 0,
-    },
-    Node {
-        code: 0,
-        argument: 6,
-    },
-    Node {
-        code: 1,
-        argument: 3,
-    },
+    EQUAL,
+    FILL,
+    THREE,
     // 33 fill < 3
-    Node {
-        code: 18,
-        argument: 0,
-    },
-    Node {
-        code: 0,
-        argument: 6,
-    },
-    Node {
-        code: 1,
-        argument: 3,
-    },
+    LESS,
+    FILL,
+    THREE,
     // 36 gear = 0
-    Node {
-        code: 16,
-        argument: 0,
-    },
-    Node {
-        code: 0,
-        argument: 2,
-    },
-    Node {
-        code: 1,
-        argument: 0,
-    },
+    EQUAL,
+    GEAR,
+    ZERO,
     // 39 constants 0, 1 and -1
-    Node {
-        code: 1,
-        argument: 0,
-    },
-    Node {
-        code: 1,
-        argument: 1,
-    },
-    Node {
-        code: 1,
-        argument: -1,
-    },
+    ZERO,
+    ONE,
+    MINUS_ONE,
     // 42 gear + 1
-    Node {
-        code: 2,
-        argument: 0,
-    },
-    Node {
-        code: 0,
-        argument: 2,
-    },
-    Node {
-        code: 1,
-        argument: 1,
-    },
+    ADD,
+    GEAR,
+    ONE,
     // 45 gear - 1
-    Node {
-        code: 3,
-        argument: 0,
-    },
-    Node {
-        code: 0,
-        argument: 2,
-    },
-    Node {
-        code: 1,
-        argument: 1,
-    },
+    SUBTRACT,
+    GEAR,
+    ONE,
     // 48 the gear's byte
-    Node {
-        code: 9,
-        argument: 0,
-    },
-    Node {
-        code: 0,
-        argument: 2,
-    },
+    BYTE,
+    GEAR,
     // 50 constants 300 and 1000
-    Node {
-        code: 1,
-        argument: 300,
-    },
-    Node {
-        code: 1,
-        argument: 1000,
-    },
+    THREE_HUNDRED,
+    THOUSAND,
     // 52 fill + 1
-    Node {
-        code: 2,
-        argument: 0,
-    },
-    Node {
-        code: 0,
-        argument: 6,
-    },
-    Node {
-        code: 1,
-        argument: 1,
-    },
+    ADD,
+    FILL,
+    ONE,
     // 55 300 + fill * 200
-    Node {
-        code: 2,
-        argument: 0,
+    ADD,
+    THREE_HUNDRED,
+    MULTIPLY,
+    FILL,
+    TWO_HUNDRED,
+];
+
+// What an action does: gear, bus, lamp, current and fill are assigned, shift and ready are emitted.
+const GEAR_NEUTRAL: ActionRow = ActionRow {
+    kind: 1,
+    target: 2,
+    nodes: Stretch {
+        first: 39,
+        count: 1,
     },
-    Node {
-        code: 1,
-        argument: 300,
+};
+
+const GEAR_FIRST: ActionRow = ActionRow {
+    kind: 1,
+    target: 2,
+    nodes: Stretch {
+        first: 40,
+        count: 1,
     },
-    Node {
-        code: 4,
-        argument: 0,
+};
+
+const GEAR_REVERSE: ActionRow = ActionRow {
+    kind: 1,
+    target: 2,
+    nodes: Stretch {
+        first: 41,
+        count: 1,
     },
-    Node {
-        code: 0,
-        argument: 6,
+};
+
+const GEAR_UP: ActionRow = ActionRow {
+    kind: 1,
+    target: 2,
+    nodes: Stretch {
+        first: 42,
+        count: 3,
     },
-    Node {
-        code: 1,
-        argument: 200,
+};
+
+const GEAR_DOWN: ActionRow = ActionRow {
+    kind: 1,
+    target: 2,
+    nodes: Stretch {
+        first: 45,
+        count: 3,
     },
+};
+
+const BUS_CLEAR: ActionRow = ActionRow {
+    kind: 1,
+    target: 3,
+    nodes: Stretch {
+        first: 39,
+        count: 1,
+    },
+};
+
+const BUS_GEAR: ActionRow = ActionRow {
+    kind: 1,
+    target: 3,
+    nodes: Stretch {
+        first: 48,
+        count: 2,
+    },
+};
+
+const LAMP_OFF: ActionRow = ActionRow {
+    kind: 1,
+    target: 4,
+    nodes: Stretch {
+        first: 39,
+        count: 1,
+    },
+};
+
+const LAMP_ON: ActionRow = ActionRow {
+    kind: 1,
+    target: 4,
+    nodes: Stretch {
+        first: 40,
+        count: 1,
+    },
+};
+
+const CURRENT_OFF: ActionRow = ActionRow {
+    kind: 1,
+    target: 5,
+    nodes: Stretch {
+        first: 39,
+        count: 1,
+    },
+};
+
+const CURRENT_LOW: ActionRow = ActionRow {
+    kind: 1,
+    target: 5,
+    nodes: Stretch {
+        first: 50,
+        count: 1,
+    },
+};
+
+const CURRENT_FULL: ActionRow = ActionRow {
+    kind: 1,
+    target: 5,
+    nodes: Stretch {
+        first: 51,
+        count: 1,
+    },
+};
+
+const CURRENT_RISES: ActionRow = ActionRow {
+    kind: 1,
+    target: 5,
+    nodes: Stretch {
+        first: 55,
+        count: 5,
+    },
+};
+
+const FILL_NONE: ActionRow = ActionRow {
+    kind: 1,
+    target: 6,
+    nodes: Stretch {
+        first: 39,
+        count: 1,
+    },
+};
+
+const FILL_MORE: ActionRow = ActionRow {
+    kind: 1,
+    target: 6,
+    nodes: Stretch {
+        first: 52,
+        count: 3,
+    },
+};
+
+const EMIT_SHIFT: ActionRow = ActionRow {
+    kind: 0,
+    target: 2,
+    nodes: Stretch { first: 0, count: 0 },
+};
+
+const EMIT_READY: ActionRow = ActionRow {
+    kind: 0,
+    target: 3,
+    nodes: Stretch { first: 0, count: 0 },
+};
+
+// The lists of actions; each comment begins with the number of its first action.
+pub const ACTIONS: [ActionRow; 31] = [
+    // 0 the gear's initial actions
+    GEAR_NEUTRAL,
+    BUS_CLEAR,
+    // 2 the clutch's initial actions
+    CURRENT_OFF,
+    FILL_NONE,
+    // 4 to forward
+    GEAR_FIRST,
+    BUS_GEAR,
+    EMIT_SHIFT,
+    // 7 to reverse
+    GEAR_REVERSE,
+    BUS_GEAR,
+    LAMP_ON,
+    EMIT_SHIFT,
+    // 11 up
+    GEAR_UP,
+    BUS_GEAR,
+    EMIT_SHIFT,
+    // 14 down
+    GEAR_DOWN,
+    BUS_GEAR,
+    EMIT_SHIFT,
+    // 17 forward to neutral
+    GEAR_NEUTRAL,
+    BUS_GEAR,
+    EMIT_SHIFT,
+    // 20 reverse to neutral
+    GEAR_NEUTRAL,
+    BUS_GEAR,
+    LAMP_OFF,
+    EMIT_SHIFT,
+    // 24 filling begins
+    FILL_NONE,
+    CURRENT_LOW,
+    // 26 the clutch is closed
+    CURRENT_FULL,
+    EMIT_READY,
+    // 28 one step of filling
+    FILL_MORE,
+    CURRENT_RISES,
+    // 30 the clutch opens
+    CURRENT_OFF,
 ];
 
 pub fn tables() -> Tables<'static> {

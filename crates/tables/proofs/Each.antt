@@ -16,7 +16,7 @@ module _ {X : Type 0} (f : ℕ → X → Verdict) (xs : List X) (i n : ℕ) (tot
   -- the next element, as the code read it: at a default of its own
   module _ (x d : X) (is : x ≡ getD xs i d) (within : i < length xs) where
     split : (f n x then each f (n + 1) (drop (i + 1) xs)) ≡ total
-    split = rw (add-one, add-one) (rw (drop-cons xs i d within, ← is) at inv)
+    split = rw (add-one n, add-one i) (rw (drop-cons xs i d within, ← is) at inv)
 
     pub each-again : Ok tt ≡ f n x → each f (n + 1) (drop (i + 1) xs) ≡ total
     each-again e = rw (← e) at split

@@ -2,9 +2,11 @@
 ghost use mathlib.Core.Path.{_≡_};
 ghost use mathlib.Core.Bool.{false};
 ghost use Prim.Native.Nat.{_+_, _^_, _<_, _≤_};
+ghost use lib.Dec.{leb};
 ghost use lib.ListN.{length, replicate};
 ghost use Rattle.std.specs.Orderings.{When, Decides};
 ghost use Rattle.std.specs.shelf.Lists.{All};
+ghost use Rattle.tables.specs.declared.refusal.LoadRefusal.the-variants.{TooMany};
 ghost use Rattle.tables.specs.Tables.{lent};
 ghost use Rattle.tables.specs.Allowed.{Allowed, Ends-in, Each-once};
 ghost use Rattle.tables.specs.Noted.{Noted};
@@ -14,6 +16,13 @@ use crate::limits::ActionRowLimits;
 use crate::limits::AutomatonLimits;
 use crate::limits::EventRowLimits;
 use crate::limits::GuardLimits;
+use crate::limits::MOST_ACTIONS;
+use crate::limits::MOST_AUTOMATA;
+use crate::limits::MOST_EVENTS;
+use crate::limits::MOST_GUARDS;
+use crate::limits::MOST_NODES;
+use crate::limits::MOST_TRANSITIONS;
+use crate::limits::MOST_VALUES;
 use crate::limits::NodeLimits;
 use crate::limits::Row;
 use crate::limits::TransitionRowLimits;
@@ -32,51 +41,22 @@ fn require(met: bool, refusal: LoadRefusal) -> Result<(), LoadRefusal>
     if met { Ok(()) } else { Err(refusal) }
 }
 
+fn judge_count(table: Table, count: usize, most: usize) -> Result<(), LoadRefusal>
+    ensures { λ r. ⌜ r ≡ unless (leb count most) (TooMany table) ⌝ }
+{
+    require(count <= most, LoadRefusal::TooMany { table })
+}
+
 fn judge_counts(sizes: &Sizes) -> Result<(), LoadRefusal>
     ensures { λ r. ⌜ r ≡ counts (now (sizes .entry)) ⌝ }
 {
-    require(
-        sizes.values <= 128,
-        LoadRefusal::TooMany {
-            table: Table::Values,
-        },
-    )?;
-    require(
-        sizes.events <= 64,
-        LoadRefusal::TooMany {
-            table: Table::Events,
-        },
-    )?;
-    require(
-        sizes.automata <= 32,
-        LoadRefusal::TooMany {
-            table: Table::Automata,
-        },
-    )?;
-    require(
-        sizes.transitions <= 512,
-        LoadRefusal::TooMany {
-            table: Table::Transitions,
-        },
-    )?;
-    require(
-        sizes.guards <= 1024,
-        LoadRefusal::TooMany {
-            table: Table::Guards,
-        },
-    )?;
-    require(
-        sizes.actions <= 1024,
-        LoadRefusal::TooMany {
-            table: Table::Actions,
-        },
-    )?;
-    require(
-        sizes.nodes <= 8192,
-        LoadRefusal::TooMany {
-            table: Table::Nodes,
-        },
-    )
+    judge_count(Table::Values, sizes.values, MOST_VALUES)?;
+    judge_count(Table::Events, sizes.events, MOST_EVENTS)?;
+    judge_count(Table::Automata, sizes.automata, MOST_AUTOMATA)?;
+    judge_count(Table::Transitions, sizes.transitions, MOST_TRANSITIONS)?;
+    judge_count(Table::Guards, sizes.guards, MOST_GUARDS)?;
+    judge_count(Table::Actions, sizes.actions, MOST_ACTIONS)?;
+    judge_count(Table::Nodes, sizes.nodes, MOST_NODES)
 }
 
 fn judge_record<R: Row>(
@@ -167,7 +147,7 @@ fn judge_automata(automata: &[Automaton], transitions: &[TransitionRow]) -> Resu
 }
 
 // Notes which automata have had a turn; false at a turn of no automaton or of one that has had it.
-fn note_turns(turns: &[u16], automata: usize, seen: &mut [bool; 32]) -> bool
+fn note_turns(turns: &[u16], automata: usize, seen: &mut [bool; MOST_AUTOMATA]) -> bool
     requires { ⌜ automata ≤ 32 ⌝ }
     requires { ⌜ now seen ≡ replicate 32 false ⌝ }
     ensures { λ r. ⌜ When r (Noted automata (now (turns .entry)) (now (seen .exit))) (Each-once automata (now (turns .entry)) → ⊥) ⌝ }
@@ -186,7 +166,7 @@ fn each_once(turns: &[u16], automata: usize) -> bool
     requires { ⌜ automata ≤ 32 ⌝ }
     ensures { λ r. ⌜ Decides r (Each-once automata (now (turns .entry))) ⌝ }
 {
-    let mut seen = [false; 32];
+    let mut seen = [false; MOST_AUTOMATA];
     if !note_turns(turns, automata, &mut seen) {
         return false;
     }

@@ -5,6 +5,13 @@ mod refusal;
 mod rows;
 
 pub use judgement::judge;
+pub use limits::MOST_ACTIONS;
+pub use limits::MOST_AUTOMATA;
+pub use limits::MOST_EVENTS;
+pub use limits::MOST_GUARDS;
+pub use limits::MOST_NODES;
+pub use limits::MOST_TRANSITIONS;
+pub use limits::MOST_VALUES;
 pub use refusal::LoadRefusal;
 pub use refusal::LoadRefusalDebug;
 pub use refusal::LoadRefusalDisplay;

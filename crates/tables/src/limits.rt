@@ -13,16 +13,49 @@ use crate::rows::Stretch;
 use crate::rows::TransitionRow;
 use crate::rows::ValueRow;
 
+// How many records each table may have.
+pub const MOST_VALUES: usize = 128;
+
+pub const MOST_EVENTS: usize = 64;
+
+pub const MOST_AUTOMATA: usize = 32;
+
+pub const MOST_TRANSITIONS: usize = 512;
+
+pub const MOST_GUARDS: usize = 1024;
+
+pub const MOST_ACTIONS: usize = 1024;
+
+pub const MOST_NODES: usize = 8192;
+
+// How many states an automaton may have, and how many nodes an expression.
+const MOST_STATES: u16 = 32;
+
+const MOST_EXPRESSION: u16 = 32;
+
+// The numbers of kinds: of values (input 0, output 1, shared 2, local 3), of events (input 0, output 1,
+// shared 2) and of actions (emit 0, assign 1). Code 0 is a node that reads a value.
+const LOCAL: u16 = 3;
+
+const SHARED: u16 = 2;
+
+const EMIT: u16 = 0;
+
+const ASSIGN: u16 = 1;
+
+const READ: u8 = 0;
+
+// What a lent record is judged by.
 pub trait Row: Copy {
+    // That its fields keep their limits.
     ghost limited: { Self → Bool };
 
+    // That its indices and stretches lie inside tables of these sizes.
     ghost inside: { Sizes → Self → Bool };
 
-    // Whether its fields keep their limits.
     fn within_limits(&self) -> bool
         ensures { λ r. ⌜ r ≡ limited (now (self .entry)) ⌝ };
 
-    // Whether its indices and stretches lie inside tables of these sizes.
     fn inside_tables(&self, sizes: &Sizes) -> bool
         ensures { λ r. ⌜ r ≡ inside (now (sizes .entry)) (now (self .entry)) ⌝ };
 }
@@ -38,7 +71,7 @@ impl Stretch {
     fn is_expression(&self) -> bool
         ensures { λ r. ⌜ r ≡ expression (now (self .entry)) ⌝ }
     {
-        0 < self.count && self.count <= 32
+        0 < self.count && self.count <= MOST_EXPRESSION
     }
 }
 
@@ -48,11 +81,11 @@ pub impl Row for ValueRow as ValueRowLimits {
     ghost inside = { value-inside };
 
     fn within_limits(&self) -> bool {
-        self.kind < 4 && (self.kind == 3 || self.owner == 0)
+        self.kind <= LOCAL && (self.kind == LOCAL || self.owner == 0)
     }
 
     fn inside_tables(&self, sizes: &Sizes) -> bool {
-        self.kind != 3 || (self.owner as usize) < sizes.automata
+        self.kind != LOCAL || (self.owner as usize) < sizes.automata
     }
 }
 
@@ -62,7 +95,7 @@ pub impl Row for EventRow as EventRowLimits {
     ghost inside = { event-inside };
 
     fn within_limits(&self) -> bool {
-        self.kind < 3
+        self.kind <= SHARED
     }
 
     fn inside_tables(&self, _sizes: &Sizes) -> bool {
@@ -76,7 +109,7 @@ pub impl Row for Automaton as AutomatonLimits {
     ghost inside = { automaton-inside };
 
     fn within_limits(&self) -> bool {
-        0 < self.states && self.states <= 32
+        0 < self.states && self.states <= MOST_STATES
     }
 
     fn inside_tables(&self, sizes: &Sizes) -> bool {
@@ -90,7 +123,7 @@ pub impl Row for TransitionRow as TransitionRowLimits {
     ghost inside = { transition-inside };
 
     fn within_limits(&self) -> bool {
-        self.source < 32 && self.destination < 32 && self.urgent < 2
+        self.source < MOST_STATES && self.destination < MOST_STATES && self.urgent <= 1
     }
 
     fn inside_tables(&self, sizes: &Sizes) -> bool {
@@ -120,15 +153,15 @@ pub impl Row for ActionRow as ActionRowLimits {
     ghost inside = { action-inside };
 
     fn within_limits(&self) -> bool {
-        if self.kind == 0 {
+        if self.kind == EMIT {
             self.nodes.first == 0 && self.nodes.count == 0
         } else {
-            self.kind == 1 && self.nodes.is_expression()
+            self.kind == ASSIGN && self.nodes.is_expression()
         }
     }
 
     fn inside_tables(&self, sizes: &Sizes) -> bool {
-        if self.kind == 0 {
+        if self.kind == EMIT {
             (self.target as usize) < sizes.events
         } else {
             (self.target as usize) < sizes.values && self.nodes.ends_in(sizes.nodes)
@@ -146,7 +179,7 @@ pub impl Row for Node as NodeLimits {
     }
 
     fn inside_tables(&self, sizes: &Sizes) -> bool {
-        if self.code != 0 {
+        if self.code != READ {
             return true;
         }
         match usize::try_from(self.argument) {
