@@ -146,7 +146,10 @@ pub impl Typed for ActionRow as TypedAction {
 }
 
 // The loaded records of a table within its limits.
-pub fn typed_records<R: Typed>(heap: Global, rows: &[R]) -> Result<Vec<R::Record>, AllocError>
+pub(crate) fn typed_records<R: Typed>(
+    heap: Global,
+    rows: &[R],
+) -> Result<Vec<R::Record>, AllocError>
     requires { ⌜ All (λ x. R·Typed .limits x ≡ true) (now rows) ⌝ }
     ensures { λ r. ⌜ made r (λ v. map (R·Typed .row) (vec-items v) ≡ now (rows .entry)) ⌝ }
 {
