@@ -1,0 +1,4 @@
+pub mod Answers
+pub mod Reads
+pub mod Meaning
+pub mod Laws
