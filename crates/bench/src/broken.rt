@@ -1,5 +1,5 @@
 // Broken variants of the shuttle's sheet: each is refused, and the sheet that was loaded stays.
-use crate::shuttle;
+use samples::shuttle;
 use sheet::Sheet;
 use std::error::AnyError;
 use std::io;

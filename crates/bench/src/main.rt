@@ -1,8 +1,8 @@
 // Shows a shift sheet being taken in, and broken ones being refused.
 mod broken;
 mod show;
-mod shuttle;
 
+use samples::shuttle;
 use sheet::Sheet;
 use std::error::AnyError;
 use tables::LoadRefusalDisplay;

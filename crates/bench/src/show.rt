@@ -1,5 +1,5 @@
 // Prints a loaded sheet, table by table.
-use crate::shuttle::Names;
+use samples::shuttle::Names;
 use sheet::Action;
 use sheet::EventKind;
 use sheet::Sheet;

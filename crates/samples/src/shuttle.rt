@@ -1,6 +1,11 @@
 // The shift sheet of a shuttle gearbox: a lever from reverse (-1) over neutral (0) to gear 8, a gear
 // automaton that follows it one gear at a tick, and a clutch automaton that fills the clutch pack after each
 // shift. The two talk by the shared event `shift`. Guards and right sides are in the range language.
+ghost use mathlib.Core.Path.{_≡_};
+ghost use lib.ListN.{length};
+ghost use Rattle.tables.specs.Answers.{answer, fine};
+ghost use Rattle.tables.specs.Load.{judged};
+ghost use Rattle.tables.specs.Tables.{lent};
 use tables::ActionRow;
 use tables::Automaton;
 use tables::EventRow;
@@ -744,7 +749,10 @@ pub const ACTIONS: [ActionRow; 31] = [
     CURRENT_OFF,
 ];
 
-pub fn tables() -> Tables<'static> {
+// The sheet's tables. They are allowed, so only want of memory refuses them.
+pub fn tables() -> Tables<'static>
+    ensures { λ r. ⌜ answer (judged (lent r)) ≡ fine ⌝ }
+{
     Tables {
         values: &VALUES,
         events: &EVENTS,
@@ -757,7 +765,12 @@ pub fn tables() -> Tables<'static> {
     }
 }
 
-pub fn called() -> Names<'static> {
+// A name for each value, event and automaton.
+pub fn called() -> Names<'static>
+    ensures values { λ r. ⌜ length (now (r .values)) ≡ 7 ⌝ }
+    ensures events { λ r. ⌜ length (now (r .events)) ≡ 4 ⌝ }
+    ensures automata { λ r. ⌜ length (now (r .automata)) ≡ 2 ⌝ }
+{
     Names {
         values: &VALUE_NAMES,
         events: &EVENT_NAMES,

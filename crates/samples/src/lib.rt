@@ -1,0 +1,2 @@
+// Sheets to show the bench with.
+pub mod shuttle;
