@@ -1,5 +1,7 @@
-// Shows a shift sheet being taken in, and broken ones being refused.
+// Shows a shift sheet being taken in, broken ones being refused, and what the sheet's expressions give.
 mod broken;
+mod gears;
+mod lever;
 mod show;
 
 use samples::shuttle;
@@ -19,6 +21,8 @@ fn run(rt: &LibcRuntime) -> Result<(), AnyError> {
     broken::show_refusals(rt, &mut sheet)?;
     println!(rt, "the shuttle's sheet as it is now")?;
     show::show_sizes(rt, &sheet)?;
+    lever::show_lever(rt, &sheet)?;
+    gears::show_gears(rt)?;
     Ok(())
 }
 
