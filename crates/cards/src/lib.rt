@@ -1,5 +1,11 @@
 // The bench's cards: examples that the definitions compute, and tests of the public calls at their edges.
+ghost use Rattle.cards.specs.Bench.{Bench-cards};
 ghost use Rattle.cards.specs.Loads.{Load-cards};
+
+// The bench's cards: what the definitions answer on the examples that bench staff know.
+pub fn bench_cards()
+    ensures { λ _. ⌜ Bench-cards ⌝ }
+{}
 
 // The cards of load: what the definition of the judgement answers on small tables, sound and broken.
 pub fn load_cards()
@@ -18,3 +24,15 @@ mod judging;
 mod loading;
 #[cfg(test)]
 mod order;
+#[cfg(test)]
+mod range_codes;
+#[cfg(test)]
+mod range_narrowing;
+#[cfg(test)]
+mod range_nodes;
+#[cfg(test)]
+mod range_shapes;
+#[cfg(test)]
+mod range_types;
+#[cfg(test)]
+mod range_values;
