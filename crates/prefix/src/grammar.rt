@@ -1,6 +1,6 @@
 // What the nodes of an expression in prefix order can stand for.
 
-#[derive(Clone, Copy, PartialEq, Eq, Debug)]
+#[derive(Clone, Copy)]
 pub enum Order {
     Equal,
     NotEqual,
@@ -10,7 +10,7 @@ pub enum Order {
     GreaterOrEqual,
 }
 
-#[derive(Clone, Copy, PartialEq, Eq, Debug)]
+#[derive(Clone, Copy)]
 pub enum Link {
     And,
     Or,
