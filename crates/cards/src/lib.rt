@@ -36,3 +36,5 @@ mod range_shapes;
 mod range_types;
 #[cfg(test)]
 mod range_values;
+#[cfg(test)]
+mod reasons;
