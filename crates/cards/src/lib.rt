@@ -24,17 +24,3 @@ mod judging;
 mod loading;
 #[cfg(test)]
 mod order;
-#[cfg(test)]
-mod range_codes;
-#[cfg(test)]
-mod range_narrowing;
-#[cfg(test)]
-mod range_nodes;
-#[cfg(test)]
-mod range_shapes;
-#[cfg(test)]
-mod range_types;
-#[cfg(test)]
-mod range_values;
-#[cfg(test)]
-mod reasons;

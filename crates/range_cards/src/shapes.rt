@@ -1,5 +1,5 @@
 // Nodes that are no range expression of the wanted sort, and expressions of many nodes.
-use crate::range_nodes::*;
+use crate::nodes::*;
 use guest::Guest;
 use guest::Narrowing;
 use guest::NarrowingDebug;
@@ -40,19 +40,19 @@ static MISSING: [&[Node]; 16] = [
     &[],
     &[ADD],
     &[ADD, ONE],
-    &[DIVIDE, FIRST],
-    &[MULTIPLY, SUBTRACT, ONE, TWO],
+    &[DIV, FIRST],
+    &[MUL, SUB, ONE, TWO],
     &[BYTE],
     &[BYTE, BYTE],
-    &[CHOOSE],
-    &[CHOOSE, EQUAL, ONE, ONE],
-    &[CHOOSE, EQUAL, ONE, ONE, ONE],
-    &[EQUAL],
-    &[LESS, FIRST],
+    &[IF],
+    &[IF, EQ, ONE, ONE],
+    &[IF, EQ, ONE, ONE, ONE],
+    &[EQ],
+    &[LT, FIRST],
     &[NOT],
-    &[NOT, GREATER, ONE],
+    &[NOT, GT, ONE],
     &[AND],
-    &[OR, EQUAL, ONE, ONE],
+    &[OR, EQ, ONE, ONE],
 ];
 
 static LEFT_OVER: [&[Node]; 11] = [
@@ -61,64 +61,64 @@ static LEFT_OVER: [&[Node]; 11] = [
     &[ONE, ADD],
     &[ADD, ONE, TWO, THREE],
     &[BYTE, ONE, TWO],
-    &[CHOOSE, EQUAL, ONE, ONE, ONE, TWO, THREE],
-    &[EQUAL, ONE, ONE, ONE],
-    &[NOT, EQUAL, ONE, ONE, EQUAL],
-    &[EQUAL, ONE, ONE, EQUAL, ONE, ONE],
-    &[AND, EQUAL, ONE, ONE, EQUAL, ONE, ONE, ONE],
-    &[OR, EQUAL, ONE, ONE, EQUAL, ONE, ONE, EQUAL, ONE, ONE],
+    &[IF, EQ, ONE, ONE, ONE, TWO, THREE],
+    &[EQ, ONE, ONE, ONE],
+    &[NOT, EQ, ONE, ONE, EQ],
+    &[EQ, ONE, ONE, EQ, ONE, ONE],
+    &[AND, EQ, ONE, ONE, EQ, ONE, ONE, ONE],
+    &[OR, EQ, ONE, ONE, EQ, ONE, ONE, EQ, ONE, ONE],
 ];
 
 // A truth where a number must stand, or the reverse.
 static WRONG_SORT: [&[Node]; 32] = [
-    &[ADD, EQUAL, ONE, ONE, ONE],
-    &[ADD, ONE, EQUAL, ONE, ONE],
-    &[SUBTRACT, EQUAL, ONE, ONE, ONE],
-    &[SUBTRACT, ONE, EQUAL, ONE, ONE],
-    &[MULTIPLY, EQUAL, ONE, ONE, ONE],
-    &[MULTIPLY, ONE, EQUAL, ONE, ONE],
-    &[DIVIDE, EQUAL, ONE, ONE, ONE],
-    &[DIVIDE, ONE, EQUAL, ONE, ONE],
-    &[BYTE, EQUAL, ONE, ONE],
-    &[CHOOSE, ONE, ONE, TWO],
-    &[CHOOSE, EQUAL, ONE, ONE, EQUAL, ONE, ONE, TWO],
-    &[CHOOSE, EQUAL, ONE, ONE, ONE, EQUAL, ONE, ONE],
-    &[EQUAL, EQUAL, ONE, ONE, ONE],
-    &[EQUAL, ONE, EQUAL, ONE, ONE],
-    &[NOT_EQUAL, EQUAL, ONE, ONE, ONE],
-    &[NOT_EQUAL, ONE, EQUAL, ONE, ONE],
-    &[LESS, EQUAL, ONE, ONE, ONE],
-    &[LESS, ONE, EQUAL, ONE, ONE],
-    &[LESS_OR_EQUAL, EQUAL, ONE, ONE, ONE],
-    &[LESS_OR_EQUAL, ONE, EQUAL, ONE, ONE],
-    &[GREATER, EQUAL, ONE, ONE, ONE],
-    &[GREATER, ONE, EQUAL, ONE, ONE],
-    &[GREATER_OR_EQUAL, EQUAL, ONE, ONE, ONE],
-    &[GREATER_OR_EQUAL, ONE, EQUAL, ONE, ONE],
+    &[ADD, EQ, ONE, ONE, ONE],
+    &[ADD, ONE, EQ, ONE, ONE],
+    &[SUB, EQ, ONE, ONE, ONE],
+    &[SUB, ONE, EQ, ONE, ONE],
+    &[MUL, EQ, ONE, ONE, ONE],
+    &[MUL, ONE, EQ, ONE, ONE],
+    &[DIV, EQ, ONE, ONE, ONE],
+    &[DIV, ONE, EQ, ONE, ONE],
+    &[BYTE, EQ, ONE, ONE],
+    &[IF, ONE, ONE, TWO],
+    &[IF, EQ, ONE, ONE, EQ, ONE, ONE, TWO],
+    &[IF, EQ, ONE, ONE, ONE, EQ, ONE, ONE],
+    &[EQ, EQ, ONE, ONE, ONE],
+    &[EQ, ONE, EQ, ONE, ONE],
+    &[NE, EQ, ONE, ONE, ONE],
+    &[NE, ONE, EQ, ONE, ONE],
+    &[LT, EQ, ONE, ONE, ONE],
+    &[LT, ONE, EQ, ONE, ONE],
+    &[LE, EQ, ONE, ONE, ONE],
+    &[LE, ONE, EQ, ONE, ONE],
+    &[GT, EQ, ONE, ONE, ONE],
+    &[GT, ONE, EQ, ONE, ONE],
+    &[GE, EQ, ONE, ONE, ONE],
+    &[GE, ONE, EQ, ONE, ONE],
     &[NOT, ONE],
     &[NOT, ADD, ONE, TWO],
-    &[AND, ONE, EQUAL, ONE, ONE],
-    &[AND, EQUAL, ONE, ONE, ONE],
+    &[AND, ONE, EQ, ONE, ONE],
+    &[AND, EQ, ONE, ONE, ONE],
     &[AND, ONE, ONE],
-    &[OR, ONE, EQUAL, ONE, ONE],
-    &[OR, EQUAL, ONE, ONE, ONE],
+    &[OR, ONE, EQ, ONE, ONE],
+    &[OR, EQ, ONE, ONE, ONE],
     &[OR, ONE, ONE],
 ];
 
 // The row has two values, so there is no third. A part to the left has another reason.
 static AFTER_A_REASON: [&[Node]; 12] = [
-    &[ADD, DIVIDE, ONE, ZERO],
-    &[DIVIDE, ONE, ZERO, ZERO],
-    &[ADD, DIVIDE, ONE, ZERO, THIRD],
-    &[ADD, DIVIDE, ONE, ZERO, NOT],
-    &[ADD, ADD, MOST_WORD, ONE, THIRD],
-    &[ADD, ADD, MOST_WORD, ONE],
-    &[CHOOSE, EQUAL, DIVIDE, ONE, ZERO, ONE, ONE, THIRD],
-    &[EQUAL, DIVIDE, ONE, ZERO, THIRD],
-    &[AND, EQUAL, DIVIDE, ONE, ZERO, ONE, ONE],
-    &[AND, EQUAL, DIVIDE, ONE, ZERO, ONE, EQUAL, ONE, THIRD],
-    &[OR, EQUAL, ADD, MOST_WORD, ONE, ONE],
-    &[NOT, EQUAL, DIVIDE, ONE, ZERO, ONE, ONE],
+    &[ADD, DIV, ONE, ZERO],
+    &[DIV, ONE, ZERO, ZERO],
+    &[ADD, DIV, ONE, ZERO, THIRD],
+    &[ADD, DIV, ONE, ZERO, NOT],
+    &[ADD, ADD, MAX, ONE, THIRD],
+    &[ADD, ADD, MAX, ONE],
+    &[IF, EQ, DIV, ONE, ZERO, ONE, ONE, THIRD],
+    &[EQ, DIV, ONE, ZERO, THIRD],
+    &[AND, EQ, DIV, ONE, ZERO, ONE, ONE],
+    &[AND, EQ, DIV, ONE, ZERO, ONE, EQ, ONE, THIRD],
+    &[OR, EQ, ADD, MAX, ONE, ONE],
+    &[NOT, EQ, DIV, ONE, ZERO, ONE, ONE],
 ];
 
 #[test]
@@ -135,24 +135,24 @@ static NUMBERS: [(&[Node], i32); 9] = [
     (&[FIRST], 7),
     (&[SECOND], -7),
     (&[ADD, ONE, TWO], 3),
-    (&[SUBTRACT, ONE, TWO], -1),
-    (&[MULTIPLY, TWO, TWO], 4),
-    (&[DIVIDE, FOUR, TWO], 2),
-    (&[CHOOSE, EQUAL, ONE, ONE, ONE, TWO], 1),
+    (&[SUB, ONE, TWO], -1),
+    (&[MUL, TWO, TWO], 4),
+    (&[DIV, FOUR, TWO], 2),
+    (&[IF, EQ, ONE, ONE, ONE, TWO], 1),
     (&[BYTE, MINUS_ONE], 255),
 ];
 
 // Guards that are no right side, and their verdicts.
 static TRUTHS: [(&[Node], bool); 9] = [
-    (&[EQUAL, ONE, TWO], false),
-    (&[NOT_EQUAL, ONE, TWO], true),
-    (&[LESS, ONE, TWO], true),
-    (&[LESS_OR_EQUAL, ONE, TWO], true),
-    (&[GREATER, ONE, TWO], false),
-    (&[GREATER_OR_EQUAL, ONE, TWO], false),
-    (&[NOT, EQUAL, ONE, TWO], true),
-    (&[AND, LESS, ONE, TWO, EQUAL, ONE, TWO], false),
-    (&[OR, LESS, ONE, TWO, EQUAL, ONE, TWO], true),
+    (&[EQ, ONE, TWO], false),
+    (&[NE, ONE, TWO], true),
+    (&[LT, ONE, TWO], true),
+    (&[LE, ONE, TWO], true),
+    (&[GT, ONE, TWO], false),
+    (&[GE, ONE, TWO], false),
+    (&[NOT, EQ, ONE, TWO], true),
+    (&[AND, LT, ONE, TWO, EQ, ONE, TWO], false),
+    (&[OR, LT, ONE, TWO, EQ, ONE, TWO], true),
 ];
 
 fn number(nodes: &[Node], expected: i32) -> Result<(), Fail> {
@@ -183,13 +183,13 @@ fn stands_for_nothing(node: Node) -> Result<(), Fail> {
             &[node],
             &[node, ONE],
             &[node, ONE, ONE],
-            &[node, EQUAL, ONE, ONE],
-            &[node, EQUAL, ONE, ONE, EQUAL, ONE, ONE],
-            &[node, EQUAL, ONE, ONE, ONE, ONE],
+            &[node, EQ, ONE, ONE],
+            &[node, EQ, ONE, ONE, EQ, ONE, ONE],
+            &[node, EQ, ONE, ONE, ONE, ONE],
             &[ADD, ONE, node],
-            &[LESS, node, ONE],
-            &[CHOOSE, LESS, ONE, TWO, ONE, node],
-            &[OR, LESS, ONE, TWO, LESS, node, ONE],
+            &[LT, node, ONE],
+            &[IF, LT, ONE, TWO, ONE, node],
+            &[OR, LT, ONE, TWO, LT, node, ONE],
             &[NOT, node, ONE, ONE],
         ],
     )
@@ -242,21 +242,21 @@ fn empty_row() -> Result<(), Fail> {
     check_eq(ends(Ranges::typed(&[read(0)], &[])), None)?;
     check_eq(Ranges::value(&[num(5)], &[]), Ok(5))?;
     check_eq(
-        Ranges::verdict(&[EQUAL, read(0), num(0)], &[]),
+        Ranges::verdict(&[EQ, read(0), num(0)], &[]),
         Err(Reason::BadShape),
     )?;
-    check_eq(Ranges::verdict(&[EQUAL, num(0), num(0)], &[]), Ok(true))
+    check_eq(Ranges::verdict(&[EQ, num(0), num(0)], &[]), Ok(true))
 }
 
 #[test]
 fn many_nots() -> Result<(), Fail> {
     let mut even = [NOT; 43];
-    even[40] = LESS;
+    even[40] = LT;
     even[41] = SECOND;
     even[42] = ZERO;
     truth(&even, true)?;
     let mut odd = [NOT; 44];
-    odd[41] = LESS;
+    odd[41] = LT;
     odd[42] = SECOND;
     odd[43] = ZERO;
     truth(&odd, false)?;
@@ -348,7 +348,7 @@ fn many_terms() -> Result<(), Fail> {
     check_eq(ends(Ranges::typed(&SUMS_ON_THE_LEFT, &[])), Some((17, 17)))?;
     number(&SUMS_ON_THE_RIGHT, 27)?;
     let mut last_leaves_the_word = SUMS_ON_THE_LEFT;
-    last_leaves_the_word[32] = MOST_WORD;
+    last_leaves_the_word[32] = MAX;
     check_eq(
         Ranges::value(&last_leaves_the_word, &[]),
         Err(Reason::OutsideWord),

@@ -1,5 +1,5 @@
 // Ranges and their numbers: what a value's codes name, what a code stands for, and which numbers and ranges a range holds.
-use crate::range_nodes::*;
+use crate::nodes::*;
 use guest::Guest;
 use ranges::Ranges;
 use ranges::RangesGuest;

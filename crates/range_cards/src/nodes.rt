@@ -12,27 +12,28 @@ pub(crate) const LEAST: i32 = -2_147_483_648;
 
 pub(crate) const MOST: i32 = 2_147_483_647;
 
+// The operations, by the short names of assembly languages; IF is choose.
 pub(crate) const ADD: Node = Node {
     code: 2,
     argument: 0,
 };
 
-pub(crate) const SUBTRACT: Node = Node {
+pub(crate) const SUB: Node = Node {
     code: 3,
     argument: 0,
 };
 
-pub(crate) const MULTIPLY: Node = Node {
+pub(crate) const MUL: Node = Node {
     code: 4,
     argument: 0,
 };
 
-pub(crate) const DIVIDE: Node = Node {
+pub(crate) const DIV: Node = Node {
     code: 5,
     argument: 0,
 };
 
-pub(crate) const CHOOSE: Node = Node {
+pub(crate) const IF: Node = Node {
     code: 8,
     argument: 0,
 };
@@ -42,32 +43,32 @@ pub(crate) const BYTE: Node = Node {
     argument: 0,
 };
 
-pub(crate) const EQUAL: Node = Node {
+pub(crate) const EQ: Node = Node {
     code: 16,
     argument: 0,
 };
 
-pub(crate) const NOT_EQUAL: Node = Node {
+pub(crate) const NE: Node = Node {
     code: 17,
     argument: 0,
 };
 
-pub(crate) const LESS: Node = Node {
+pub(crate) const LT: Node = Node {
     code: 18,
     argument: 0,
 };
 
-pub(crate) const LESS_OR_EQUAL: Node = Node {
+pub(crate) const LE: Node = Node {
     code: 19,
     argument: 0,
 };
 
-pub(crate) const GREATER: Node = Node {
+pub(crate) const GT: Node = Node {
     code: 20,
     argument: 0,
 };
 
-pub(crate) const GREATER_OR_EQUAL: Node = Node {
+pub(crate) const GE: Node = Node {
     code: 21,
     argument: 0,
 };
@@ -118,12 +119,12 @@ pub(crate) const FOUR: Node = Node {
     argument: 4,
 };
 
-pub(crate) const LEAST_WORD: Node = Node {
+pub(crate) const MIN: Node = Node {
     code: 1,
     argument: LEAST,
 };
 
-pub(crate) const MOST_WORD: Node = Node {
+pub(crate) const MAX: Node = Node {
     code: 1,
     argument: MOST,
 };
@@ -163,7 +164,7 @@ pub(crate) type Ends = (i32, i32);
 
 // The range from `lo` to `hi`, which may be as wide as the word range.
 pub(crate) fn span(lo: i32, hi: i32) -> Result<Range, Fail> {
-    let either = [CHOOSE, EQUAL, ZERO, ZERO, num(lo), num(hi)];
+    let either = [IF, EQ, ZERO, ZERO, num(lo), num(hi)];
     match Ranges::typed(&either, &[]) {
         Some(range) => {
             check(range.lo == lo && range.hi == hi)?;
