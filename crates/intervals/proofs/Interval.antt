@@ -19,7 +19,7 @@ use Rattle.intervals.specs.declared.range.Range.{Range}
 use Rattle.intervals.specs.declared.operations.Arithmetic.{Arithmetic}
 use Rattle.intervals.specs.declared.operations.Arithmetic.the-variants.{Add, Subtract, Multiply, Divide}
 use Rattle.intervals.specs.Word.{proper}
-use Rattle.intervals.specs.Grammar.{is-zero}
+use Rattle.prefix.specs.Codes.{is-zero}
 use Rattle.intervals.specs.Range.{range-if, range, held}
 use Rattle.intervals.specs.Value.{word, applied}
 use Rattle.intervals.specs.Typing.{corners, spread, hull}

@@ -18,13 +18,14 @@ use Rattle.guest.specs.Laws.{Laws}
 use Rattle.prefix.specs.declared.grammar.Order.{Order}
 use Rattle.prefix.specs.declared.grammar.Head.{Head}
 use Rattle.prefix.specs.declared.grammar.Head.the-variants.{Read, Constant, Unary, Binary, Choose, Compare, Not, Join}
+use Rattle.prefix.proofs.ByCode.{None-read, reads-by-code}
 use Rattle.prefix.proofs.Parts.{leaf-good, pair-good, choice-good, comparison-told, not-told, join-told}
 use Rattle.prefix.proofs.Related.{Related}
 use Rattle.prefix.proofs.Laws.{Good, Told, Kept, Sound, typed-gives, guard-decides, yes-fits, never-yes, alike-type, alike-value, alike-verdict, alike-cut, unread-stays}
 use Rattle.intervals.specs.declared.range.Range.{Range}
 use Rattle.intervals.specs.declared.operations.Byte.{Byte}
 use Rattle.intervals.specs.declared.operations.Arithmetic.{Arithmetic}
-use Rattle.intervals.specs.Grammar.{head, codes, looked-up, read-of, is-zero}
+use Rattle.intervals.specs.Grammar.{constant, codes}
 use Rattle.intervals.specs.Value.{by-value, compared}
 use Rattle.intervals.specs.Typing.{spread, hull, by-type}
 use Rattle.intervals.specs.Narrow.{trimmed}
@@ -34,47 +35,8 @@ use Rattle.intervals.proofs.Codes.{rest-held, decoded-held, encoded-decodes, i
 use Rattle.intervals.proofs.Trim.{trim-keeps}
 use Rattle.intervals.proofs.Interval.{spread-good, hull-good, byte-good, constant-good}
 
--- only code 0 reads
-abbrev No-read : Option (Head Byte Arithmetic) → Type 0
-No-read None = Unit {0}
-No-read (Some (Read i)) = ⊥
-No-read (Some (Constant z)) = Unit {0}
-No-read (Some (Unary u)) = Unit {0}
-No-read (Some (Binary f)) = Unit {0}
-No-read (Some Choose) = Unit {0}
-No-read (Some (Compare o)) = Unit {0}
-No-read (Some Not) = Unit {0}
-No-read (Some (Join l)) = Unit {0}
-
-no-read-if : (b : Bool) (x y : Option (Head Byte Arithmetic)) → No-read x → No-read y → No-read (cond b x y)
-no-read-if true x y h k = h
-no-read-if false x y h k = k
-
-abbrev None-read : List (ℕ × Head Byte Arithmetic) → Type 0
-None-read [] = Unit {0}
-None-read (row ∷ rows) = No-read (Some (row .1)) × None-read rows
-
-no-read-up : (code : ℕ) (rows : List (ℕ × Head Byte Arithmetic)) → None-read rows → No-read (looked-up code rows)
-no-read-up code [] h = tt
-no-read-up code (row ∷ rows) h = no-read-if (eqb code (row .0)) (Some (row .1)) (looked-up code rows) (h .0) (no-read-up code rows (h .1))
-
 no-codes-read : None-read codes
 no-codes-read = (tt, (tt, (tt, (tt, (tt, (tt, (tt, (tt, (tt, (tt, (tt, (tt, (tt, (tt, (tt, tt)))))))))))))))
-
-reads-named : (a : ℤ) (i : ℕ) → read-of a ≡ Some (Read i) → Among i (named a)
-reads-named (pos n) i e = let d : i ≡ n = cc in inl d
-reads-named (negsuc n) i e = let z : _≡_ {A = ℕ} 0 1 = cc in absurd (omega arith)
-
-reads-if : (b : Bool) (a : ℤ) (o : Option (Head Byte Arithmetic)) (i : ℕ) → No-read o → cond b (read-of a) o ≡ Some (Read i) → Among i (cond b (named a) [])
-reads-if true a o i h e = reads-named a i e
-reads-if false a o i h e = absurd (rw e at h)
-
-reads-by-code : (n : Node) (i : ℕ) → head n ≡ Some (Read i) → Among i (read-by n)
-reads-by-code n i e =
-    reads-if (eqb (n .code) 0) (n .argument) (cond (eqb (n .code) 1) (Some (Constant (n .argument))) (cond (is-zero (n .argument)) (looked-up (n .code) codes) None)) i
-    (no-read-if (eqb (n .code) 1) (Some (Constant (n .argument))) (cond (is-zero (n .argument)) (looked-up (n .code) codes) None) tt
-    (no-read-if (is-zero (n .argument)) (looked-up (n .code) codes) None (no-read-up (n .code) codes no-codes-read) tt))
-    e
 
 byte-typed : (u : Byte) (p : Option Range) (a : Result ℤ Reason) → Good ranges p a → Good ranges (by-type .unary u p) (by-value .unary u a)
 byte-typed u None a h = tt
@@ -96,7 +58,7 @@ keeps : (o : Order) (z : ℤ) (t : Range) (v : ℤ) → ranges .holds t v ≡ tr
 keeps o z t v h e = let d : compared o v z ≡ true = cc in trim-keeps o z t v (held-in t v h) d
 
 sound : Sound ranges language
-sound = record { reads-by-code = reads-by-code; leaf = leaf-good ranges; nodes = nodes; trim-keeps = keeps }
+sound = record { reads-by-code = reads-by-code constant codes (λ z. tt) no-codes-read; leaf = leaf-good ranges; nodes = nodes; trim-keeps = keeps }
 
 pub range-laws : Laws ranges
 range-laws = record {

@@ -1,16 +1,15 @@
 -- What the codes of nodes stand for.
-use mathlib.Core.Bool.{Bool, false, cond}
 use mathlib.Core.List.{List, [], _∷_}
 use Prim.Native.Nat.{ℕ}
-use lib.Dec.{eqb}
-use lib.IntN.{ℤ, pos, negsuc}
+use lib.IntN.{ℤ}
 use Rattle.std.specs.declared.option.Option.{Option}
-use Rattle.std.specs.declared.option.Option.the-variants.{Some, None}
+use Rattle.std.specs.declared.option.Option.the-variants.{Some}
 use Rattle.tables.specs.declared.Node.{Node}
 use Rattle.prefix.specs.declared.grammar.Head.{Head}
-use Rattle.prefix.specs.declared.grammar.Head.the-variants.{Read, Constant, Unary, Binary, Choose, Compare, Not, Join}
+use Rattle.prefix.specs.declared.grammar.Head.the-variants.{Constant, Unary, Binary, Choose, Compare, Not, Join}
 use Rattle.prefix.specs.declared.grammar.Order.the-variants.{Equal, NotEqual, Less, LessOrEqual, Greater, GreaterOrEqual}
 use Rattle.prefix.specs.declared.grammar.Link.the-variants.{And, Or}
+use Rattle.prefix.specs.Codes.{head-by}
 use Rattle.intervals.specs.declared.operations.Byte.{Byte}
 use Rattle.intervals.specs.declared.operations.Arithmetic.{Arithmetic}
 use Rattle.intervals.specs.declared.operations.Arithmetic.the-variants.{Add, Subtract, Multiply, Divide}
@@ -27,21 +26,8 @@ codes =
     ∷ (22, Not) ∷ (23, Join And) ∷ (24, Join Or)
     ∷ []
 
-abbrev pub looked-up : {A : Type 0} → ℕ → List (ℕ × A) → Option A
-looked-up code [] = None
-looked-up code (row ∷ rows) = cond (eqb code (row .0)) (Some (row .1)) (looked-up code rows)
+abbrev pub constant : ℤ → Option (Head Byte Arithmetic)
+constant z = Some (Constant z)
 
--- a read of the place that the argument names
-abbrev pub read-of : ℤ → Option (Head Byte Arithmetic)
-read-of (pos n) = Some (Read n)
-read-of (negsuc n) = None
-
-abbrev pub is-zero : ℤ → Bool
-is-zero (pos n) = eqb n 0
-is-zero (negsuc n) = false
-
--- codes other than 0 and 1 have argument 0
 abbrev pub head : Node → Option (Head Byte Arithmetic)
-head node =
-    cond (eqb (node .code) 0) (read-of (node .argument)) (cond (eqb (node .code) 1) (Some (Constant (node .argument)))
-    (cond (is-zero (node .argument)) (looked-up (node .code) codes) None))
+head node = head-by constant codes node

@@ -10,13 +10,13 @@ use Rattle.guest.specs.declared.answers.Reason.{Reason}
 use Rattle.guest.specs.declared.answers.Reason.the-variants.{DivisorZero, OutsideWord}
 use Rattle.prefix.specs.declared.grammar.Order.{Order}
 use Rattle.prefix.specs.declared.grammar.Order.the-variants.{Equal, NotEqual, Less, LessOrEqual, Greater, GreaterOrEqual}
+use Rattle.prefix.specs.Codes.{is-zero}
 use Rattle.prefix.specs.Outcome.{then-by, read-value, choice-value, comparison-value, not-value, join-value}
 use Rattle.prefix.specs.Pass.{Algebra}
 use Rattle.intervals.specs.declared.operations.Byte.{Byte}
 use Rattle.intervals.specs.declared.operations.Arithmetic.{Arithmetic}
 use Rattle.intervals.specs.declared.operations.Arithmetic.the-variants.{Add, Subtract, Multiply, Divide}
 use Rattle.intervals.specs.Word.{in-word}
-use Rattle.intervals.specs.Grammar.{is-zero}
 
 -- a number, where it is in the word range
 abbrev pub word : ℤ → Result ℤ Reason

@@ -21,6 +21,7 @@ use Rattle.prefix.specs.Tree as Tree
 use Rattle.prefix.specs.Tree.{Number, Truth}
 use Rattle.prefix.specs.Parse as Parse
 use Rattle.prefix.specs.Parse.{placed, heads, next, number-from, truth-from, parse-number, parse-truth, whole}
+use Rattle.prefix.specs.Walk.{Reading}
 use Rattle.prefix.specs.Pass.{Algebra, of-number, of-truth, given, number-pass, truth-pass}
 
 -- every leaf of a tree is at a place of P
@@ -38,20 +39,9 @@ abbrev mutual
   Weighs P (Tree.join l a b) = Weighs P a × Weighs P b
 
 -- every head that reads does so at a place of P
-abbrev At : {U B : Type 0} → (ℕ → Type 0) → Option (Head U B) → Type 0
-At P None = Unit {0}
-At P (Some (Read i)) = P i
-At P (Some (Constant z)) = Unit {0}
-At P (Some (Unary u)) = Unit {0}
-At P (Some (Binary f)) = Unit {0}
-At P (Some Choose) = Unit {0}
-At P (Some (Compare o)) = Unit {0}
-At P (Some Not) = Unit {0}
-At P (Some (Join l)) = Unit {0}
-
 abbrev All-at : {U B : Type 0} → (ℕ → Type 0) → List (Option (Head U B)) → Type 0
 All-at P [] = Unit {0}
-All-at P (h ∷ hs) = At P h × All-at P hs
+All-at P (h ∷ hs) = Reading P h × All-at P hs
 
 -- what was read has Q, and what is left is at places of P
 abbrev Left : {U B A : Type 0} → (ℕ → Type 0) → (A → Type 0) → Option (A × List (Option (Head U B))) → Type 0
@@ -70,7 +60,7 @@ module _ {U B : Type 0} (P : ℕ → Type 0) where
   TruthLeft o = Left P (Weighs P) o
 
   module _ (N : List (Option (Head U B)) → Option (Number U B × List (Option (Head U B)))) (T : List (Option (Head U B)) → Option (Truth U B × List (Option (Head U B)))) (n : (hs : List (Option (Head U B))) → All-at P hs → NumberLeft (N hs)) (t : (hs : List (Option (Head U B))) → All-at P hs → TruthLeft (T hs)) where
-    from-number : (h : Option (Head U B)) (hs : List (Option (Head U B))) → At P h → All-at P hs → NumberLeft (number-from N T h hs)
+    from-number : (h : Option (Head U B)) (hs : List (Option (Head U B))) → Reading P h → All-at P hs → NumberLeft (number-from N T h hs)
     from-number None hs p l = tt
     from-number (Some (Read i)) hs p l = (p, l)
     from-number (Some (Constant z)) hs p l = (tt, l)
@@ -83,7 +73,7 @@ module _ {U B : Type 0} (P : ℕ → Type 0) where
     from-number (Some Not) hs p l = tt
     from-number (Some (Join i)) hs p l = tt
 
-    from-truth : (h : Option (Head U B)) (hs : List (Option (Head U B))) → At P h → All-at P hs → TruthLeft (truth-from N T h hs)
+    from-truth : (h : Option (Head U B)) (hs : List (Option (Head U B))) → Reading P h → All-at P hs → TruthLeft (truth-from N T h hs)
     from-truth None hs p l = tt
     from-truth (Some (Read i)) hs p l = tt
     from-truth (Some (Constant z)) hs p l = tt
@@ -160,11 +150,11 @@ module _ {U B E X Y : Type 0} (A : Algebra U B E X Y) (r s : List E) where
   same-placed (Some Not) k = refl
   same-placed (Some (Join l)) k = refl
 
-  at-cond : (b : Bool) (i : ℕ) → Same i → At {U = U} {B = B} Same (cond b (Some (Read i)) None)
+  at-cond : (b : Bool) (i : ℕ) → Same i → Reading {U = U} {B = B} Same (cond b (Some (Read i)) None)
   at-cond true i e = e
   at-cond false i e = tt
 
-  at-placed : (w : ℕ) (h : Option (Head U B)) → ((i : ℕ) → h ≡ Some (Read i) → Same i) → At Same (placed w h)
+  at-placed : (w : ℕ) (h : Option (Head U B)) → ((i : ℕ) → h ≡ Some (Read i) → Same i) → Reading Same (placed w h)
   at-placed w None k = tt
   at-placed w (Some (Read i)) k = at-cond (ltb i w) i (k i refl)
   at-placed w (Some (Constant z)) k = tt

@@ -7,3 +7,4 @@ pub mod ThreeNodes
 pub mod Laws
 pub mod Shape
 pub mod Parts
+pub mod ByCode

@@ -6,3 +6,4 @@ pub mod Simple
 pub mod Language
 pub mod Shape
 pub mod Outcome
+pub mod Codes

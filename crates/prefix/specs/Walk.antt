@@ -47,17 +47,21 @@ abbrev pub first : {U B : Type 0} → List (Option (Head U B)) → Option (Head 
 first [] = None
 first (h ∷ hs) = h
 
+-- a head that reads does so at a place of P
+abbrev pub Reading : {U B : Type 0} → (ℕ → Type 0) → Option (Head U B) → Type 0
+Reading P None = Unit {0}
+Reading P (Some (Read i)) = P i
+Reading P (Some (Constant z)) = Unit {0}
+Reading P (Some (Unary u)) = Unit {0}
+Reading P (Some (Binary b)) = Unit {0}
+Reading P (Some Choose) = Unit {0}
+Reading P (Some (Compare o)) = Unit {0}
+Reading P (Some Not) = Unit {0}
+Reading P (Some (Join l)) = Unit {0}
+
 -- a place that is read is one of w
 abbrev pub Placed : {U B : Type 0} → ℕ → Option (Head U B) → Type 0
-Placed w None = Unit {0}
-Placed w (Some (Read i)) = i < w
-Placed w (Some (Constant z)) = Unit {0}
-Placed w (Some (Unary u)) = Unit {0}
-Placed w (Some (Binary b)) = Unit {0}
-Placed w (Some Choose) = Unit {0}
-Placed w (Some (Compare o)) = Unit {0}
-Placed w (Some Not) = Unit {0}
-Placed w (Some (Join l)) = Unit {0}
+Placed w h = Reading (λ i. i < w) h
 
 abbrev pub Some-below : {A : Type 0} → ℕ → ℕ → Option A → Type 0
 Some-below at n None = Unit {0}

@@ -1,6 +1,7 @@
 // What the nodes of a range expression stand for.
 ghost use mathlib.Core.Path.{_≡_};
-ghost use Rattle.intervals.specs.Grammar.{head as head-of, codes, looked-up};
+ghost use Rattle.prefix.specs.Codes.{looked-up};
+ghost use Rattle.intervals.specs.Grammar.{head as head-of, codes};
 use intervals::Arithmetic;
 use intervals::Byte;
 use prefix::Head;
