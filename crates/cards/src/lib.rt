@@ -1,4 +1,6 @@
 // The bench's cards: examples that the definitions compute, and tests of the public calls at their edges.
+#![tactic(auto)]
+
 ghost use Rattle.cards.specs.Bench.{BenchCards};
 ghost use Rattle.cards.specs.Loads.{LoadCards};
 

@@ -1,5 +1,7 @@
 // Expressions in prefix order, as all guests write them: their shape, and one pass over the nodes that judges the shape
 // and gives what the expression comes to, by values, by types or otherwise.
+#![tactic(auto)]
+
 mod comparison;
 mod grammar;
 mod outcome;

@@ -1,4 +1,6 @@
 // Tests of the range guest at its edges. Expected answers were written by hand from the rules in docs/GUESTS.md.
+#![tactic(auto)]
+
 #[cfg(test)]
 mod codes;
 #[cfg(test)]

@@ -1,4 +1,6 @@
 // The range guest: whole numbers, with ranges as types.
+#![tactic(auto)]
+
 mod answers;
 mod evaluation;
 mod grammar;

@@ -1,2 +1,4 @@
 // Sheets to show the bench with.
+#![tactic(auto)]
+
 pub mod shuttle;

@@ -1,4 +1,6 @@
 // Loaded shift sheets: typed records, and the invariant that every number lies inside its table.
+#![tactic(auto)]
+
 mod loaded;
 mod records;
 

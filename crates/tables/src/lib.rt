@@ -1,4 +1,6 @@
 // The tables of a shift sheet as a caller lends them, and the judgement on them.
+#![tactic(auto)]
+
 mod judgement;
 mod limits;
 mod refusal;
