@@ -129,8 +129,8 @@ fn judge_automata(automata: &[Automaton], transitions: &[TransitionRow]) -> Resu
 
 // Notes which automata have had a turn; false at a turn of no automaton or of one that has had it.
 fn note_turns(turns: &[u16], automata: usize, seen: &mut [bool; MOST_AUTOMATA]) -> bool
-    requires automata_bound { automata ≤ 32 }
-    requires seen_value { seen.old ≡ replicate 32 false }
+    requires few { automata ≤ 32 }
+    requires none_seen { seen.old ≡ replicate 32 false }
     ensures { MatchBool result (Noted automata turns.now seen.new) (EachOnce automata turns.now → ⊥) }
 {
     for turn in turns {

@@ -7,8 +7,8 @@ pub returns-then-at-nodes : goal.returns-then-at-nodes
 returns-then-at-nodes g c =
     record {
       inside = below _ _ _ c.if-at-nodes.true;
-      placed = c.within-row.ensures.read;
-      stands = c.within-row.ensures.same ∙ ap (placed c.args.width) c.head.ensures ∙ first_some g.P.Pass.grammar _ _ _ _ c.if-at-nodes.true;
+      placed = c.within_row.ensures.read;
+      stands = c.within_row.ensures.same ∙ ap (placed c.args.width) c.head.ensures ∙ first_some g.P.Pass.grammar _ _ _ _ c.if-at-nodes.true;
     }
 
 pub returns-else-at-nodes : goal.returns-else-at-nodes

@@ -9,5 +9,5 @@ use Rattle.prefix.proofs.walk.number_pass.Goals as goal
 pub returns : goal.returns
 returns g c =
     let e =
-    c.whole.ensures ∙ ended_whole (of_number g.P.Pass.algebra c.args.row.now) parse_number _ _ (heads_length g.P.Pass.grammar _ c.args.nodes.now) _ c.number-at.ensures in
+    c.whole.ensures ∙ ended_whole (of_number g.P.Pass.algebra c.args.row.now) parse_number _ _ (heads_length g.P.Pass.grammar _ c.args.nodes.now) _ c.number_at.ensures in
     record { answer = e; shape = rw e (gives_number g.P.Pass.grammar g.P.Pass.algebra c.args.nodes.now c.args.row.now) }

@@ -3,22 +3,22 @@ use Rattle.tables.proofs.Judged.{values_limited, events_limited, transitions_lim
 use Rattle.sheet.proofs.Loads.{accepted_as, written_is}
 use Rattle.sheet.proofs.loaded.Sheet.copied.Goals as goal
 
-pub typed-records-requires : goal.typed-records-requires
-typed-records-requires c = values_limited (lent c.args.tables.now) c.requires
+pub typed_records-requires : goal.typed_records-requires
+typed_records-requires c = values_limited (lent c.args.tables.now) c.requires
 
-pub typed-records-requires-2 : goal.typed-records-requires-2
-typed-records-requires-2 c = events_limited (lent c.args.tables.now) c.requires
+pub typed_records-requires-2 : goal.typed_records-requires-2
+typed_records-requires-2 c = events_limited (lent c.args.tables.now) c.requires
 
-pub typed-records-requires-3 : goal.typed-records-requires-3
-typed-records-requires-3 c = transitions_limited (lent c.args.tables.now) c.requires
+pub typed_records-requires-3 : goal.typed_records-requires-3
+typed_records-requires-3 c = transitions_limited (lent c.args.tables.now) c.requires
 
-pub typed-records-requires-4 : goal.typed-records-requires-4
-typed-records-requires-4 c = actions_limited (lent c.args.tables.now) c.requires
+pub typed_records-requires-4 : goal.typed_records-requires-4
+typed_records-requires-4 c = actions_limited (lent c.args.tables.now) c.requires
 
-pub invariant-of-result : goal.invariant-of-result
-invariant-of-result c = (
-  accepted_as (lent c.args.tables.now) _ c.requires
-      (written_is (lent c.args.tables.now) _ c.in-ok-values.ensures c.in-ok-events.ensures c.in-ok-automata.ensures.items c.in-ok-turns.ensures.items
-      c.in-ok-transitions.ensures c.in-ok-guards.ensures.items c.in-ok-actions.ensures c.in-ok-nodes.ensures.items),
-  tt,
-)
+pub invariant_of-result : goal.invariant_of-result
+invariant_of-result c = record {
+  allowed =
+      accepted_as (lent c.args.tables.now) _ c.requires
+      (written_is (lent c.args.tables.now) _ c.in_ok-values.ensures c.in_ok-events.ensures c.in_ok-automata.ensures.items c.in_ok-turns.ensures.items
+      c.in_ok-transitions.ensures c.in_ok-guards.ensures.items c.in_ok-actions.ensures c.in_ok-nodes.ensures.items);
+}
