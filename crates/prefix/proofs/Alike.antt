@@ -1,5 +1,5 @@
 -- A pass depends on the elements that the expression reads, and on no others.
-use Rattle.std.proofs.Common.{◌≡◌, ℕ, zero, suc, ◌<◌, Bool, true, false, cond, ltb, List, [], ◌∷◌, ◌++◌, length, is_some, Some, None, Option, sym, refl, ap, ◌∙◌, arith, le-ltb, lt-ltb}
+use Rattle.std.proofs.Common.{◌≡◌, ℕ, zero, suc, Bool, true, false, cond, ltb, List, [], ◌∷◌, length, is_some, Some, None, Option, sym, refl, ap, ◌∙◌, arith, le-ltb, lt-ltb}
 use Rattle.std.proofs.lemmas.Bool.Decides.{nat_tests}
 use Rattle.std.specs.List.{slice_get}
 use Rattle.tables.specs.declared.Node.{Node}
@@ -9,7 +9,6 @@ use Rattle.prefix.specs.declared.grammar.Head.{Head}
 use Rattle.prefix.specs.declared.grammar.Head.TheVariants.{Read, Constant, Unary, Binary, Choose, Compare, Not, Join}
 use Rattle.prefix.specs.Tree as Tree
 use Rattle.prefix.specs.Tree.{Number, Truth}
-use Rattle.prefix.specs.Parse as Parse
 use Rattle.prefix.specs.Parse.{placed, heads, next, number_from, truth_from, parse_number, parse_truth, whole}
 use Rattle.prefix.specs.Walk.{Reading}
 use Rattle.prefix.specs.Pass.{Algebra, of_number, of_truth, given, number_pass, truth_pass}

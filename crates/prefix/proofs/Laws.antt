@@ -1,5 +1,5 @@
 -- What a guest owes for each kind of node, and that it then keeps the laws on expressions.
-use Rattle.std.proofs.Common.{◌≡◌, ℕ, Bool, true, false, ◌≢◌, List, length, set, ℤ, Some, None, Ok, Err, Option, Result, sym, refl, ap, ◌∙◌, subst, arith}
+use Rattle.std.proofs.Common.{◌≡◌, ℕ, Bool, true, false, ◌≢◌, List, set, ℤ, Some, None, Ok, Err, Option, Result, sym, refl, ap, ◌∙◌, subst, arith}
 use Rattle.std.specs.List.{slice_get}
 use Rattle.tables.specs.declared.Node.{Node}
 use Rattle.guest.specs.declared.answers.Reason.{Reason}
@@ -8,10 +8,9 @@ use Rattle.guest.specs.Meaning.{Meaning, Fit, Cut, narrowed, no_guard, never}
 use Rattle.guest.specs.Laws.{SameCut}
 use Rattle.guest.proofs.Rows.{set_other, set_alike, fit_length, Held, fit_held, fit_set}
 use Rattle.prefix.specs.declared.grammar.Order.{Order}
-use Rattle.prefix.specs.declared.grammar.Link.{Link}
 use Rattle.prefix.specs.declared.grammar.Head.TheVariants.{Read}
 use Rattle.prefix.specs.declared.comparison.Comparison.{Comparison}
-use Rattle.prefix.specs.Pass.{Algebra, number_pass, truth_pass}
+use Rattle.prefix.specs.Pass.{number_pass, truth_pass}
 use Rattle.prefix.specs.Simple.{simple}
 use Rattle.prefix.specs.Language.{Language, shaped, flattened, put_back, cut_place, cut_by, cut, right_type, right_value, guard_verdict, guard_cut}
 use Rattle.prefix.proofs.Related.{Related, Both, numbers_related, truths_related}

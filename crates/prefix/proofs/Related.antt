@@ -1,5 +1,5 @@
 -- Two passes over one expression: what relates their leaves relates what they give.
-use Rattle.std.proofs.Common.{◌≡◌, ℕ, List, length, ℤ, Some, None, Option, sym, subst}
+use Rattle.std.proofs.Common.{◌≡◌, ℕ, List, length, ℤ, Some, None, Option, subst}
 use Rattle.std.specs.List.{slice_get}
 use Rattle.tables.specs.declared.Node.{Node}
 use Rattle.prefix.specs.declared.grammar.Order.{Order}

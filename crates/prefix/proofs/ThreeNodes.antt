@@ -1,5 +1,5 @@
 -- What a guard of exactly three nodes, comparison, read, constant, gives and reads.
-use Rattle.std.proofs.Common.{◌≡◌, ℕ, Bool, true, cond, ltb, List, [], ◌∷◌, length, get_or, ℤ, is_some, Some, None, Option, sym, refl, ap, ◌∙◌, arith}
+use Rattle.std.proofs.Common.{◌≡◌, ℕ, true, ltb, List, [], ◌∷◌, length, get_or, ℤ, is_some, Some, None, Option, sym, refl, ap, ◌∙◌, arith}
 use Rattle.std.specs.List.{slice_get}
 use Rattle.tables.specs.declared.Node.{Node}
 use Rattle.guest.specs.Reads.{Among, read_by, reads}
@@ -7,10 +7,7 @@ use Rattle.prefix.specs.declared.grammar.Order.{Order}
 use Rattle.prefix.specs.declared.grammar.Head.{Head}
 use Rattle.prefix.specs.declared.grammar.Head.TheVariants.{Read, Constant, Unary, Binary, Choose, Compare, Not, Join}
 use Rattle.prefix.specs.declared.comparison.Comparison.{Comparison}
-use Rattle.prefix.specs.Tree as Tree
-use Rattle.prefix.specs.Parse as Parse
-use Rattle.prefix.specs.Parse.{placed, parse_truth, whole}
-use Rattle.prefix.specs.Pass.{Algebra, of_truth, given, truth_pass}
+use Rattle.prefix.specs.Pass.{Algebra, truth_pass}
 use Rattle.prefix.specs.Simple.{order_of, place_of, constant_of, compared_by, simple}
 use Rattle.guest.proofs.Rows.{among_left, among_right}
 use Rattle.prefix.proofs.Alike.{known}

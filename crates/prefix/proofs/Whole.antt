@@ -1,5 +1,5 @@
 -- The whole expression: what was found ends where the nodes do.
-use Rattle.std.proofs.Common.{◌≡◌, ℕ, zero, suc, ◌+◌, ◌<◌, ◌≤◌, Bool, true, false, cond, eqb, List, [], ◌∷◌, length, drop, Some, None, Option, sym, refl, ap, ◌∙◌, arith, length-drop, eqb-true}
+use Rattle.std.proofs.Common.{◌≡◌, ℕ, ◌<◌, Bool, true, false, cond, eqb, List, [], ◌∷◌, length, drop, Some, None, Option, sym, refl, ap, ◌∙◌, arith, length-drop, eqb-true}
 use borrow.Author.Tests.{eqb-false}
 use Rattle.prefix.specs.Parse.{whole}
 use Rattle.prefix.specs.Pass.{given}

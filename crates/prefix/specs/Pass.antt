@@ -1,5 +1,5 @@
 -- Going through a tree from its leaves up, over a row of elements.
-use Rattle.std.specs.Prelude.{ℕ, List, length, ℤ, Some, None, Option}
+use Rattle.std.specs.Prelude.{List, length, ℤ, Some, None, Option}
 use Rattle.std.specs.List.{slice_get}
 use Rattle.tables.specs.declared.Node.{Node}
 use Rattle.prefix.specs.declared.grammar.Order.{Order}

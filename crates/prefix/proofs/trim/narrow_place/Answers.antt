@@ -1,4 +1,4 @@
-use Rattle.std.proofs.Common.{◌≡◌, length, refl, arith, w32, SFits, rules}
+use Rattle.std.proofs.Common.{length, refl, w32, SFits, rules}
 use Rattle.std.proofs.lemmas.Option.{slice_get_read, slice_get_past}
 use Rattle.std.proofs.lemmas.Int.{to_z-of_z}
 use Rattle.prefix.proofs.Cuts.{cut_none, cut_never, cut_kept}

@@ -12,73 +12,73 @@ pub truth_at-returns-in_err-order : goal.truth_at-returns-in_err-order
 truth_at-returns-in_err-order g t c =
     rw c.from_residual.ensures (no_truth g.P.Pass.algebra c.args.row.now _ _ _ c.in_err-order.ensures.stands)
 
-pub number_at-returns-in_err-a : goal.number_at-returns-in_err-a
-number_at-returns-in_err-a g t c =
-    rw c.from_residual-in_err-a.ensures (number_after g.P.Pass.algebra c.args.row.now _ _ _ _ _ c.in_ok-place.ensures _ c.in-Unary.is _ (none _ _ _ _ _ c.in_err-a.ensures))
+pub number_at-returns-in_err-a-in-Unary : goal.number_at-returns-in_err-a-in-Unary
+number_at-returns-in_err-a-in-Unary g t c =
+    rw c.from_residual-in_err-a-in-Unary.ensures (number_after g.P.Pass.algebra c.args.row.now _ _ _ _ _ c.in_ok-place.ensures _ c.in-Unary.is _ (none _ _ _ _ _ c.in_err-a-in-Unary.ensures))
 
-pub number_at-returns-in_ok-a : goal.number_at-returns-in_ok-a
-number_at-returns-in_ok-a g t c =
-    rw c.unary.ensures (number_after g.P.Pass.algebra c.args.row.now _ _ _ _ _ c.in_ok-place.ensures _ c.in-Unary.is _ (andthen _ _ _ _ _ _ _ _ c.in_ok-a.ensures (done _ _ _ _ c.in_ok-a.ensures.moves.1)))
+pub number_at-returns-in_ok-a-in-Unary : goal.number_at-returns-in_ok-a-in-Unary
+number_at-returns-in_ok-a-in-Unary g t c =
+    rw c.unary.ensures (number_after g.P.Pass.algebra c.args.row.now _ _ _ _ _ c.in_ok-place.ensures _ c.in-Unary.is _ (andthen _ _ _ _ _ _ _ _ c.in_ok-a-in-Unary.ensures (done _ _ _ _ c.in_ok-a-in-Unary.ensures.moves.1)))
 
-pub number_at-returns-in_err-a-2 : goal.number_at-returns-in_err-a-2
-number_at-returns-in_err-a-2 g t c =
-    rw c.from_residual-in_err-a-2.ensures (number_after g.P.Pass.algebra c.args.row.now _ _ _ _ _ c.in_ok-place.ensures _ c.in-Binary.is _ (none _ _ _ _ _ c.in_err-a-2.ensures))
+pub number_at-returns-in_err-a-in-Binary : goal.number_at-returns-in_err-a-in-Binary
+number_at-returns-in_err-a-in-Binary g t c =
+    rw c.from_residual-in_err-a-in-Binary.ensures (number_after g.P.Pass.algebra c.args.row.now _ _ _ _ _ c.in_ok-place.ensures _ c.in-Binary.is _ (none _ _ _ _ _ c.in_err-a-in-Binary.ensures))
 
-pub number_at-returns-in_err-b : goal.number_at-returns-in_err-b
-number_at-returns-in_err-b g t c =
-    rw c.from_residual-in_err-b.ensures (number_after g.P.Pass.algebra c.args.row.now _ _ _ _ _ c.in_ok-place.ensures _ c.in-Binary.is _ (andthen _ _ _ _ _ _ _ _ c.in_ok-a-2.ensures (none _ _ _ _ _ c.in_err-b.ensures)))
+pub number_at-returns-in_err-b-in-Binary : goal.number_at-returns-in_err-b-in-Binary
+number_at-returns-in_err-b-in-Binary g t c =
+    rw c.from_residual-in_err-b-in-Binary.ensures (number_after g.P.Pass.algebra c.args.row.now _ _ _ _ _ c.in_ok-place.ensures _ c.in-Binary.is _ (andthen _ _ _ _ _ _ _ _ c.in_ok-a-in-Binary.ensures (none _ _ _ _ _ c.in_err-b-in-Binary.ensures)))
 
-pub number_at-returns-in_ok-b : goal.number_at-returns-in_ok-b
-number_at-returns-in_ok-b g t c =
-    rw c.binary.ensures (number_after g.P.Pass.algebra c.args.row.now _ _ _ _ _ c.in_ok-place.ensures _ c.in-Binary.is _ (andthen _ _ _ _ _ _ _ _ c.in_ok-a-2.ensures (andthen _ _ _ _ _ _ _ _ c.in_ok-b.ensures (done _ _ _ _ c.in_ok-b.ensures.moves.1))))
+pub number_at-returns-in_ok-b-in-Binary : goal.number_at-returns-in_ok-b-in-Binary
+number_at-returns-in_ok-b-in-Binary g t c =
+    rw c.binary.ensures (number_after g.P.Pass.algebra c.args.row.now _ _ _ _ _ c.in_ok-place.ensures _ c.in-Binary.is _ (andthen _ _ _ _ _ _ _ _ c.in_ok-a-in-Binary.ensures (andthen _ _ _ _ _ _ _ _ c.in_ok-b-in-Binary.ensures (done _ _ _ _ c.in_ok-b-in-Binary.ensures.moves.1))))
 
-pub number_at-returns-in_err-condition : goal.number_at-returns-in_err-condition
-number_at-returns-in_err-condition g t c =
-    rw c.from_residual-in_err-condition.ensures (number_after g.P.Pass.algebra c.args.row.now _ _ _ _ _ c.in_ok-place.ensures _ c.in-Choose.is _ (none _ _ _ _ _ c.in_err-condition.ensures))
+pub number_at-returns-in_err-condition-in-Choose : goal.number_at-returns-in_err-condition-in-Choose
+number_at-returns-in_err-condition-in-Choose g t c =
+    rw c.from_residual-in_err-condition-in-Choose.ensures (number_after g.P.Pass.algebra c.args.row.now _ _ _ _ _ c.in_ok-place.ensures _ c.in-Choose.is _ (none _ _ _ _ _ c.in_err-condition-in-Choose.ensures))
 
-pub number_at-returns-in_err-a-3 : goal.number_at-returns-in_err-a-3
-number_at-returns-in_err-a-3 g t c =
-    rw c.from_residual-in_err-a-3.ensures (number_after g.P.Pass.algebra c.args.row.now _ _ _ _ _ c.in_ok-place.ensures _ c.in-Choose.is _ (andthen _ _ _ _ _ _ _ _ c.in_ok-condition.ensures (none _ _ _ _ _ c.in_err-a-3.ensures)))
+pub number_at-returns-in_err-a-in-Choose : goal.number_at-returns-in_err-a-in-Choose
+number_at-returns-in_err-a-in-Choose g t c =
+    rw c.from_residual-in_err-a-in-Choose.ensures (number_after g.P.Pass.algebra c.args.row.now _ _ _ _ _ c.in_ok-place.ensures _ c.in-Choose.is _ (andthen _ _ _ _ _ _ _ _ c.in_ok-condition-in-Choose.ensures (none _ _ _ _ _ c.in_err-a-in-Choose.ensures)))
 
-pub number_at-returns-in_err-b-2 : goal.number_at-returns-in_err-b-2
-number_at-returns-in_err-b-2 g t c =
-    rw c.from_residual-in_err-b-2.ensures (number_after g.P.Pass.algebra c.args.row.now _ _ _ _ _ c.in_ok-place.ensures _ c.in-Choose.is _ (andthen _ _ _ _ _ _ _ _ c.in_ok-condition.ensures (andthen _ _ _ _ _ _ _ _ c.in_ok-a-3.ensures (none _ _ _ _ _ c.in_err-b-2.ensures))))
+pub number_at-returns-in_err-b-in-Choose : goal.number_at-returns-in_err-b-in-Choose
+number_at-returns-in_err-b-in-Choose g t c =
+    rw c.from_residual-in_err-b-in-Choose.ensures (number_after g.P.Pass.algebra c.args.row.now _ _ _ _ _ c.in_ok-place.ensures _ c.in-Choose.is _ (andthen _ _ _ _ _ _ _ _ c.in_ok-condition-in-Choose.ensures (andthen _ _ _ _ _ _ _ _ c.in_ok-a-in-Choose.ensures (none _ _ _ _ _ c.in_err-b-in-Choose.ensures))))
 
-pub number_at-returns-in_ok-b-2 : goal.number_at-returns-in_ok-b-2
-number_at-returns-in_ok-b-2 g t c =
-    rw c.choose.ensures (number_after g.P.Pass.algebra c.args.row.now _ _ _ _ _ c.in_ok-place.ensures _ c.in-Choose.is _ (andthen _ _ _ _ _ _ _ _ c.in_ok-condition.ensures (andthen _ _ _ _ _ _ _ _ c.in_ok-a-3.ensures (andthen _ _ _ _ _ _ _ _ c.in_ok-b-2.ensures (done _ _ _ _ c.in_ok-b-2.ensures.moves.1)))))
+pub number_at-returns-in_ok-b-in-Choose : goal.number_at-returns-in_ok-b-in-Choose
+number_at-returns-in_ok-b-in-Choose g t c =
+    rw c.choose.ensures (number_after g.P.Pass.algebra c.args.row.now _ _ _ _ _ c.in_ok-place.ensures _ c.in-Choose.is _ (andthen _ _ _ _ _ _ _ _ c.in_ok-condition-in-Choose.ensures (andthen _ _ _ _ _ _ _ _ c.in_ok-a-in-Choose.ensures (andthen _ _ _ _ _ _ _ _ c.in_ok-b-in-Choose.ensures (done _ _ _ _ c.in_ok-b-in-Choose.ensures.moves.1)))))
 
-pub truth_at-returns-in_err-a : goal.truth_at-returns-in_err-a
-truth_at-returns-in_err-a g t c =
-    rw c.from_residual-in_err-a.ensures (truth_after g.P.Pass.algebra c.args.row.now _ _ _ _ _ c.in_ok-order.ensures _ c.in-Compare.is _ (none _ _ _ _ _ c.in_err-a.ensures))
+pub truth_at-returns-in_err-a-in-Compare : goal.truth_at-returns-in_err-a-in-Compare
+truth_at-returns-in_err-a-in-Compare g t c =
+    rw c.from_residual-in_err-a-in-Compare.ensures (truth_after g.P.Pass.algebra c.args.row.now _ _ _ _ _ c.in_ok-order.ensures _ c.in-Compare.is _ (none _ _ _ _ _ c.in_err-a-in-Compare.ensures))
 
-pub truth_at-returns-in_err-b : goal.truth_at-returns-in_err-b
-truth_at-returns-in_err-b g t c =
-    rw c.from_residual-in_err-b.ensures (truth_after g.P.Pass.algebra c.args.row.now _ _ _ _ _ c.in_ok-order.ensures _ c.in-Compare.is _ (andthen _ _ _ _ _ _ _ _ c.in_ok-a.ensures (none _ _ _ _ _ c.in_err-b.ensures)))
+pub truth_at-returns-in_err-b-in-Compare : goal.truth_at-returns-in_err-b-in-Compare
+truth_at-returns-in_err-b-in-Compare g t c =
+    rw c.from_residual-in_err-b-in-Compare.ensures (truth_after g.P.Pass.algebra c.args.row.now _ _ _ _ _ c.in_ok-order.ensures _ c.in-Compare.is _ (andthen _ _ _ _ _ _ _ _ c.in_ok-a-in-Compare.ensures (none _ _ _ _ _ c.in_err-b-in-Compare.ensures)))
 
-pub truth_at-returns-in_ok-b : goal.truth_at-returns-in_ok-b
-truth_at-returns-in_ok-b g t c =
-    rw c.compare.ensures (truth_after g.P.Pass.algebra c.args.row.now _ _ _ _ _ c.in_ok-order.ensures _ c.in-Compare.is _ (andthen _ _ _ _ _ _ _ _ c.in_ok-a.ensures (andthen _ _ _ _ _ _ _ _ c.in_ok-b.ensures (done _ _ _ _ c.in_ok-b.ensures.moves.1))))
+pub truth_at-returns-in_ok-b-in-Compare : goal.truth_at-returns-in_ok-b-in-Compare
+truth_at-returns-in_ok-b-in-Compare g t c =
+    rw c.compare.ensures (truth_after g.P.Pass.algebra c.args.row.now _ _ _ _ _ c.in_ok-order.ensures _ c.in-Compare.is _ (andthen _ _ _ _ _ _ _ _ c.in_ok-a-in-Compare.ensures (andthen _ _ _ _ _ _ _ _ c.in_ok-b-in-Compare.ensures (done _ _ _ _ c.in_ok-b-in-Compare.ensures.moves.1))))
 
-pub truth_at-returns-in_err-a-2 : goal.truth_at-returns-in_err-a-2
-truth_at-returns-in_err-a-2 g t c =
-    rw c.from_residual-in_err-a-2.ensures (truth_after g.P.Pass.algebra c.args.row.now _ _ _ _ _ c.in_ok-order.ensures _ c.in-Not.is _ (none _ _ _ _ _ c.in_err-a-2.ensures))
+pub truth_at-returns-in_err-a-in-Not : goal.truth_at-returns-in_err-a-in-Not
+truth_at-returns-in_err-a-in-Not g t c =
+    rw c.from_residual-in_err-a-in-Not.ensures (truth_after g.P.Pass.algebra c.args.row.now _ _ _ _ _ c.in_ok-order.ensures _ c.in-Not.is _ (none _ _ _ _ _ c.in_err-a-in-Not.ensures))
 
-pub truth_at-returns-in_ok-a-2 : goal.truth_at-returns-in_ok-a-2
-truth_at-returns-in_ok-a-2 g t c =
-    rw c.not.ensures (truth_after g.P.Pass.algebra c.args.row.now _ _ _ _ _ c.in_ok-order.ensures _ c.in-Not.is _ (andthen _ _ _ _ _ _ _ _ c.in_ok-a-2.ensures (done _ _ _ _ c.in_ok-a-2.ensures.moves.1)))
+pub truth_at-returns-in_ok-a-in-Not : goal.truth_at-returns-in_ok-a-in-Not
+truth_at-returns-in_ok-a-in-Not g t c =
+    rw c.not.ensures (truth_after g.P.Pass.algebra c.args.row.now _ _ _ _ _ c.in_ok-order.ensures _ c.in-Not.is _ (andthen _ _ _ _ _ _ _ _ c.in_ok-a-in-Not.ensures (done _ _ _ _ c.in_ok-a-in-Not.ensures.moves.1)))
 
-pub truth_at-returns-in_err-a-3 : goal.truth_at-returns-in_err-a-3
-truth_at-returns-in_err-a-3 g t c =
-    rw c.from_residual-in_err-a-3.ensures (truth_after g.P.Pass.algebra c.args.row.now _ _ _ _ _ c.in_ok-order.ensures _ c.in-Join.is _ (none _ _ _ _ _ c.in_err-a-3.ensures))
+pub truth_at-returns-in_err-a-in-Join : goal.truth_at-returns-in_err-a-in-Join
+truth_at-returns-in_err-a-in-Join g t c =
+    rw c.from_residual-in_err-a-in-Join.ensures (truth_after g.P.Pass.algebra c.args.row.now _ _ _ _ _ c.in_ok-order.ensures _ c.in-Join.is _ (none _ _ _ _ _ c.in_err-a-in-Join.ensures))
 
-pub truth_at-returns-in_err-b-2 : goal.truth_at-returns-in_err-b-2
-truth_at-returns-in_err-b-2 g t c =
-    rw c.from_residual-in_err-b-2.ensures (truth_after g.P.Pass.algebra c.args.row.now _ _ _ _ _ c.in_ok-order.ensures _ c.in-Join.is _ (andthen _ _ _ _ _ _ _ _ c.in_ok-a-3.ensures (none _ _ _ _ _ c.in_err-b-2.ensures)))
+pub truth_at-returns-in_err-b-in-Join : goal.truth_at-returns-in_err-b-in-Join
+truth_at-returns-in_err-b-in-Join g t c =
+    rw c.from_residual-in_err-b-in-Join.ensures (truth_after g.P.Pass.algebra c.args.row.now _ _ _ _ _ c.in_ok-order.ensures _ c.in-Join.is _ (andthen _ _ _ _ _ _ _ _ c.in_ok-a-in-Join.ensures (none _ _ _ _ _ c.in_err-b-in-Join.ensures)))
 
-pub truth_at-returns-in_ok-b-2 : goal.truth_at-returns-in_ok-b-2
-truth_at-returns-in_ok-b-2 g t c =
-    rw c.join.ensures (truth_after g.P.Pass.algebra c.args.row.now _ _ _ _ _ c.in_ok-order.ensures _ c.in-Join.is _ (andthen _ _ _ _ _ _ _ _ c.in_ok-a-3.ensures (andthen _ _ _ _ _ _ _ _ c.in_ok-b-2.ensures (done _ _ _ _ c.in_ok-b-2.ensures.moves.1))))
+pub truth_at-returns-in_ok-b-in-Join : goal.truth_at-returns-in_ok-b-in-Join
+truth_at-returns-in_ok-b-in-Join g t c =
+    rw c.join.ensures (truth_after g.P.Pass.algebra c.args.row.now _ _ _ _ _ c.in_ok-order.ensures _ c.in-Join.is _ (andthen _ _ _ _ _ _ _ _ c.in_ok-a-in-Join.ensures (andthen _ _ _ _ _ _ _ _ c.in_ok-b-in-Join.ensures (done _ _ _ _ c.in_ok-b-in-Join.ensures.moves.1))))
 
 pub number_at-returns-in-Read : goal.number_at-returns-in-Read
 number_at-returns-in-Read g t c =
