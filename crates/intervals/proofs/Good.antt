@@ -1,5 +1,5 @@
 -- What a range holds, and what `range` gives.
-use Rattle.std.proofs.Common.{◌≡◌, Bool, true, false, ◌&&◌, ℤ, ◌≤ℤ◌, Some, None, Option, refl, ap, ◌∙◌, arith}
+use Rattle.std.proofs.Common.{◌≡◌, Bool, true, false, ◌&&◌, ℤ, ◌≤ℤ◌, Some, None, refl, ap, ◌∙◌, arith}
 use mathlib.Core.Bool.{Bool-set}
 use lib.Signed.{le_z}
 use Rattle.std.proofs.lemmas.Int.{ints}

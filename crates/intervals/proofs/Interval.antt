@@ -1,5 +1,5 @@
 -- Arithmetic of ranges.
-use Rattle.std.proofs.Common.{◌≡◌, ℕ, zero, suc, ◌*◌, ◌/◌, ◌<◌, ◌≤◌, Bool, true, false, cond, ◌⊎◌, ℤ, pos, negsuc, ◌+ℤ◌, ◌-ℤ◌, ◌*ℤ◌, neg_ℤ, ◌≤ℤ◌, ◌<ℤ◌, Some, None, Ok, refl, inl, inr, mul-le-mul_right, mul-le-mul_left, le-div_iff_mul-le, div-le_self, div-mul-le_self, arith, le→leb, leb→le, w32, w64, SFits}
+use Rattle.std.proofs.Common.{◌≡◌, ℕ, zero, suc, ◌*◌, ◌/◌, ◌<◌, ◌≤◌, Bool, true, false, cond, ◌⊎◌, ℤ, pos, negsuc, ◌+ℤ◌, ◌-ℤ◌, ◌*ℤ◌, neg_ℤ, ◌≤ℤ◌, ◌<ℤ◌, None, Ok, refl, inl, inr, mul-le-mul_right, mul-le-mul_left, le-div_iff_mul-le, div-le_self, div-mul-le_self, arith, le→leb, leb→le, w32, w64, SFits}
 use lib.IntN.{*ℤ_comm}
 use lib.Signed.{le_z, quot_z, mag, ≤ℤ_refl}
 use Rattle.std.specs.Int.{int_min, int_max, int_rem_euclid}

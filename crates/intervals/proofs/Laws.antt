@@ -1,19 +1,14 @@
 -- The range guest keeps the laws of guests.
-use Rattle.std.proofs.Common.{◌≡◌, ℕ, Bool, true, false, cond, eqb, List, [], ◌∷◌, ℤ, pos, negsuc, Some, None, Ok, Err, Option, Result, refl, inl, arith}
-use Rattle.tables.specs.declared.Node.{Node}
+use Rattle.std.proofs.Common.{◌≡◌, true, ℤ, Some, None, Ok, Err, Option, Result}
 use Rattle.guest.specs.declared.answers.Reason.{Reason}
-use Rattle.guest.specs.Reads.{Among, named, read_by}
 use Rattle.guest.specs.Laws.{Laws}
 use Rattle.prefix.specs.declared.grammar.Order.{Order}
-use Rattle.prefix.specs.declared.grammar.Head.{Head}
-use Rattle.prefix.specs.declared.grammar.Head.TheVariants.{Read, Constant, Unary, Binary, Choose, Compare, Not, Join}
 use Rattle.prefix.proofs.ByCode.{NoneRead, reads_by_code}
 use Rattle.prefix.proofs.Parts.{leaf_good, pair_good, choice_good, comparison_told, not_told, join_told}
 use Rattle.prefix.proofs.Related.{Related}
 use Rattle.prefix.proofs.Laws.{Good, Told, Kept, Sound, typed_gives, guard_decides, yes_fits, never_yes, alike_type, alike_value, alike_verdict, alike_cut, unread_stays}
 use Rattle.intervals.specs.declared.range.Range.{Range}
 use Rattle.intervals.specs.declared.operations.Byte.{Byte}
-use Rattle.intervals.specs.declared.operations.Arithmetic.{Arithmetic}
 use Rattle.intervals.specs.Grammar.{constant, codes}
 use Rattle.intervals.specs.Value.{by_value, compared}
 use Rattle.intervals.specs.Typing.{spread, hull, by_type}

@@ -1,4 +1,4 @@
-use Rattle.std.proofs.Common.{◌≡◌, true, false, sym, ◌∙◌, arith, w64, SFits}
+use Rattle.std.proofs.Common.{◌≡◌, true, sym, ◌∙◌, arith, w64, SFits}
 use Rattle.std.proofs.lemmas.Int.{ints, to_z-of_z}
 use Rattle.intervals.specs.Word.{proper}
 use Rattle.intervals.proofs.Good.{proper_ends, range_is, range_not}
