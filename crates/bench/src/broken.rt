@@ -2,7 +2,7 @@
 use samples::shuttle;
 use sheet::Sheet;
 use std::io;
-use tables::{Stretch, Tables};
+use tables::{Automaton, Stretch, Tables, TransitionRow, ValueRow};
 
 fn attempt(rt: &HostRuntime, sheet: &mut Sheet, change: &str, tables: &Tables) -> io::Result<()> {
     match sheet.load(rt.alloc(), tables) {
@@ -28,40 +28,33 @@ fn too_many(rt: &HostRuntime, sheet: &mut Sheet) -> anyhow::Result<()> {
     Ok(())
 }
 
-fn values(rt: &HostRuntime, sheet: &mut Sheet) -> io::Result<()> {
-    let mut values = shuttle::VALUES;
-    values[0].kind = 4;
+fn attempt_values(
+    rt: &HostRuntime,
+    sheet: &mut Sheet,
+    change: &str,
+    values: &[ValueRow],
+) -> io::Result<()> {
     attempt(
         rt,
         sheet,
-        "the lever has kind 4",
+        change,
         &Tables {
-            values: &values,
-            ..shuttle::tables()
-        },
-    )?;
-    let mut values = shuttle::VALUES;
-    values[2].owner = 1;
-    attempt(
-        rt,
-        sheet,
-        "the shared gear has owner 1",
-        &Tables {
-            values: &values,
-            ..shuttle::tables()
-        },
-    )?;
-    let mut values = shuttle::VALUES;
-    values[6].owner = 2;
-    attempt(
-        rt,
-        sheet,
-        "the local fill is owned by automaton 2",
-        &Tables {
-            values: &values,
+            values,
             ..shuttle::tables()
         },
     )
+}
+
+fn values(rt: &HostRuntime, sheet: &mut Sheet) -> io::Result<()> {
+    let mut values = shuttle::VALUES;
+    values[0].kind = 4;
+    attempt_values(rt, sheet, "the lever has kind 4", &values)?;
+    let mut values = shuttle::VALUES;
+    values[2].owner = 1;
+    attempt_values(rt, sheet, "the shared gear has owner 1", &values)?;
+    let mut values = shuttle::VALUES;
+    values[6].owner = 2;
+    attempt_values(rt, sheet, "the local fill is owned by automaton 2", &values)
 }
 
 fn events(rt: &HostRuntime, sheet: &mut Sheet) -> io::Result<()> {
@@ -78,37 +71,52 @@ fn events(rt: &HostRuntime, sheet: &mut Sheet) -> io::Result<()> {
     )
 }
 
+fn attempt_automata(
+    rt: &HostRuntime,
+    sheet: &mut Sheet,
+    change: &str,
+    automata: &[Automaton],
+) -> io::Result<()> {
+    attempt(
+        rt,
+        sheet,
+        change,
+        &Tables {
+            automata,
+            ..shuttle::tables()
+        },
+    )
+}
+
 fn automata(rt: &HostRuntime, sheet: &mut Sheet) -> io::Result<()> {
     let mut automata = shuttle::AUTOMATA;
     automata[0].states = 33;
-    attempt(
-        rt,
-        sheet,
-        "the gear has 33 states",
-        &Tables {
-            automata: &automata,
-            ..shuttle::tables()
-        },
-    )?;
+    attempt_automata(rt, sheet, "the gear has 33 states", &automata)?;
     let mut automata = shuttle::AUTOMATA;
     automata[1].transitions.count = 7;
-    attempt(
+    attempt_automata(
         rt,
         sheet,
         "the clutch lists one transition past the end",
-        &Tables {
-            automata: &automata,
-            ..shuttle::tables()
-        },
+        &automata,
     )?;
     let mut automata = shuttle::AUTOMATA;
     automata[1].initial = 3;
+    attempt_automata(rt, sheet, "the clutch begins in state 3 of 3", &automata)
+}
+
+fn attempt_transitions(
+    rt: &HostRuntime,
+    sheet: &mut Sheet,
+    change: &str,
+    transitions: &[TransitionRow],
+) -> io::Result<()> {
     attempt(
         rt,
         sheet,
-        "the clutch begins in state 3 of 3",
+        change,
         &Tables {
-            automata: &automata,
+            transitions,
             ..shuttle::tables()
         },
     )
@@ -117,50 +125,23 @@ fn automata(rt: &HostRuntime, sheet: &mut Sheet) -> io::Result<()> {
 fn transitions(rt: &HostRuntime, sheet: &mut Sheet) -> io::Result<()> {
     let mut transitions = shuttle::TRANSITIONS;
     transitions[4].urgent = 2;
-    attempt(
-        rt,
-        sheet,
-        "transition 4 has urgent 2",
-        &Tables {
-            transitions: &transitions,
-            ..shuttle::tables()
-        },
-    )?;
+    attempt_transitions(rt, sheet, "transition 4 has urgent 2", &transitions)?;
     let mut transitions = shuttle::TRANSITIONS;
     transitions[6].trigger = 4;
-    attempt(
-        rt,
-        sheet,
-        "transition 6 waits for event 4",
-        &Tables {
-            transitions: &transitions,
-            ..shuttle::tables()
-        },
-    )?;
+    attempt_transitions(rt, sheet, "transition 6 waits for event 4", &transitions)?;
     let mut transitions = shuttle::TRANSITIONS;
     transitions[1].destination = 3;
-    attempt(
-        rt,
-        sheet,
-        "transition 1 goes to state 3 of 3",
-        &Tables {
-            transitions: &transitions,
-            ..shuttle::tables()
-        },
-    )?;
+    attempt_transitions(rt, sheet, "transition 1 goes to state 3 of 3", &transitions)?;
     let mut transitions = shuttle::TRANSITIONS;
     transitions[2].guards = Stretch {
         first: 65535,
         count: 65535,
     };
-    attempt(
+    attempt_transitions(
         rt,
         sheet,
         "transition 2 has guards 65535 to 131069",
-        &Tables {
-            transitions: &transitions,
-            ..shuttle::tables()
-        },
+        &transitions,
     )
 }
 

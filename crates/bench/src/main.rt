@@ -1,4 +1,6 @@
 // Shows a shift sheet being taken in, broken ones being refused, and what the sheet's expressions give.
+#![tactic(auto)]
+
 mod broken;
 mod gears;
 mod lever;

@@ -142,6 +142,14 @@ const STRETCHES: [(u16, u16, u8); 7] = [
     (65535, 65535, 3),
 ];
 
+fn automaton_number<'a>(automata: &'a [Automaton], transitions: &'a [TransitionRow]) -> u8 {
+    number(&Tables {
+        automata,
+        transitions,
+        ..base()
+    })
+}
+
 #[test]
 fn automaton_stretches(rt: HostRuntime) {
     let transitions = [TRANSITIONS[0], TRANSITIONS[0]];
@@ -151,26 +159,21 @@ fn automaton_stretches(rt: HostRuntime) {
             actions: part,
             ..AUTOMATA[0]
         }];
-        assert_eq!(rt;
-            number(&Tables {
-                automata: &automata,
-                ..base()
-            },),
-            answer
-        );
+        assert_eq!(rt; automaton_number(&automata, &TRANSITIONS), answer);
         let automata = [Automaton {
             transitions: part,
             ..AUTOMATA[0]
         }];
-        assert_eq!(rt;
-            number(&Tables {
-                automata: &automata,
-                transitions: &transitions,
-                ..base()
-            },),
-            answer
-        );
+        assert_eq!(rt; automaton_number(&automata, &transitions), answer);
     }
+}
+
+fn transition_number<'a>(transitions: &'a [TransitionRow], guards: &'a [Guard]) -> u8 {
+    number(&Tables {
+        transitions,
+        guards,
+        ..base()
+    })
 }
 
 #[test]
@@ -182,25 +185,12 @@ fn transition_stretches(rt: HostRuntime) {
             guards: part,
             ..TRANSITIONS[0]
         }];
-        assert_eq!(rt;
-            number(&Tables {
-                transitions: &transitions,
-                guards: &guards,
-                ..base()
-            },),
-            answer
-        );
+        assert_eq!(rt; transition_number(&transitions, &guards), answer);
         let transitions = [TransitionRow {
             actions: part,
             ..TRANSITIONS[0]
         }];
-        assert_eq!(rt;
-            number(&Tables {
-                transitions: &transitions,
-                ..base()
-            },),
-            answer
-        );
+        assert_eq!(rt; transition_number(&transitions, &GUARDS), answer);
     }
 }
 

@@ -200,6 +200,17 @@ fn automata_in_their_order(rt: HostRuntime) {
     );
 }
 
+fn judge_transitions(transitions: &[TransitionRow]) -> Result<(), LoadRefusal> {
+    judge(&Tables {
+        transitions,
+        ..base()
+    })
+}
+
+fn judge_guards(guards: &[Guard]) -> Result<(), LoadRefusal> {
+    judge(&Tables { guards, ..base() })
+}
+
 #[test]
 fn unlisted_records(rt: HostRuntime) {
     // States are asked of listed transitions alone, limits of every record.
@@ -211,13 +222,7 @@ fn unlisted_records(rt: HostRuntime) {
             ..TRANSITIONS[0]
         },
     ];
-    assert_eq!(rt;
-        judge(&Tables {
-            transitions: &transitions,
-            ..base()
-        },),
-        Ok(())
-    );
+    assert_eq!(rt; judge_transitions(&transitions), Ok(()));
     let guards = [
         GUARDS[0],
         Guard {
@@ -225,10 +230,7 @@ fn unlisted_records(rt: HostRuntime) {
         },
     ];
     assert_eq!(rt;
-        judge(&Tables {
-            guards: &guards,
-            ..base()
-        },),
+        judge_guards(&guards),
         Err(LoadRefusal::Limit {
             table: Table::Guards,
             row: 1,

@@ -2,6 +2,7 @@
 use crate::nodes::*;
 use guest::Guest;
 use ranges::Ranges;
+use std::test::Fail;
 
 // Two codes, and whether they name a range.
 static MADE: [(i32, i32, bool); 16] = [

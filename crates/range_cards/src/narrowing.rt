@@ -3,6 +3,7 @@ use crate::nodes::*;
 use guest::{Guest, Narrowing};
 use ranges::Ranges;
 use std::process::Abort;
+use std::test::Fail;
 use tables::Node;
 
 // Narrows three values of one range by a guard. The second then has the range `after`, and the others are as they were.

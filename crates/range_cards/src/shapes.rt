@@ -3,6 +3,7 @@ use crate::nodes::*;
 use guest::{Guest, Narrowing, Reason};
 use ranges::Ranges;
 use std::process::Abort;
+use std::test::Fail;
 use tables::Node;
 
 // As a right side the nodes have neither a value nor a type.
@@ -203,22 +204,20 @@ fn one_sort_is_not_the_other(rt: HostRuntime) -> Result<(), Fail> {
 
 // A node that stands for nothing, with operands of every sort that an operation may have, and as an operand.
 fn stands_for_nothing(rt: &impl Abort, node: Node) -> Result<(), Fail> {
-    no_expressions(
-        rt,
-        &[
-            &[node],
-            &[node, ONE],
-            &[node, ONE, ONE],
-            &[node, EQ, ONE, ONE],
-            &[node, EQ, ONE, ONE, EQ, ONE, ONE],
-            &[node, EQ, ONE, ONE, ONE, ONE],
-            &[ADD, ONE, node],
-            &[LT, node, ONE],
-            &[IF, LT, ONE, TWO, ONE, node],
-            &[OR, LT, ONE, TWO, LT, node, ONE],
-            &[NOT, node, ONE, ONE],
-        ],
-    )
+    let all: [&[Node]; 11] = [
+        &[node],
+        &[node, ONE],
+        &[node, ONE, ONE],
+        &[node, EQ, ONE, ONE],
+        &[node, EQ, ONE, ONE, EQ, ONE, ONE],
+        &[node, EQ, ONE, ONE, ONE, ONE],
+        &[ADD, ONE, node],
+        &[LT, node, ONE],
+        &[IF, LT, ONE, TWO, ONE, node],
+        &[OR, LT, ONE, TWO, LT, node, ONE],
+        &[NOT, node, ONE, ONE],
+    ];
+    no_expressions(rt, &all)
 }
 
 static OPERATIONS: [u8; 15] = [2, 3, 4, 5, 8, 9, 16, 17, 18, 19, 20, 21, 22, 23, 24];

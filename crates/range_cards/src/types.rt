@@ -2,6 +2,7 @@
 use crate::nodes::*;
 use guest::{Guest, Narrowing};
 use ranges::Ranges;
+use std::test::Fail;
 use tables::Node;
 
 const WORDS: Ends = (LEAST, MOST);
