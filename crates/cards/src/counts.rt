@@ -14,14 +14,14 @@ fn most_values(rt: HostRuntime) {
         judge(&Tables {
             values: &[VALUES[1]; 128],
             ..base()
-        },),
+        }),
         Ok(())
     );
     assert_eq!(rt;
         judge(&Tables {
             values: &[VALUES[1]; 129],
             ..base()
-        },),
+        }),
         too_many(Table::Values)
     );
 }
@@ -32,14 +32,14 @@ fn most_events(rt: HostRuntime) {
         judge(&Tables {
             events: &[EVENTS[1]; 64],
             ..base()
-        },),
+        }),
         Ok(())
     );
     assert_eq!(rt;
         judge(&Tables {
             events: &[EVENTS[1]; 65],
             ..base()
-        },),
+        }),
         too_many(Table::Events)
     );
 }
@@ -84,14 +84,14 @@ fn most_transitions(rt: HostRuntime) {
         judge(&Tables {
             transitions: &[TRANSITIONS[0]; 512],
             ..base()
-        },),
+        }),
         Ok(())
     );
     assert_eq!(rt;
         judge(&Tables {
             transitions: &[TRANSITIONS[0]; 513],
             ..base()
-        },),
+        }),
         too_many(Table::Transitions)
     );
 }
@@ -102,14 +102,14 @@ fn most_guards(rt: HostRuntime) {
         judge(&Tables {
             guards: &[GUARDS[0]; 1024],
             ..base()
-        },),
+        }),
         Ok(())
     );
     assert_eq!(rt;
         judge(&Tables {
             guards: &[GUARDS[0]; 1025],
             ..base()
-        },),
+        }),
         too_many(Table::Guards)
     );
 }
@@ -120,14 +120,14 @@ fn most_actions(rt: HostRuntime) {
         judge(&Tables {
             actions: &[ACTIONS[0]; 1024],
             ..base()
-        },),
+        }),
         Ok(())
     );
     assert_eq!(rt;
         judge(&Tables {
             actions: &[ACTIONS[0]; 1025],
             ..base()
-        },),
+        }),
         too_many(Table::Actions)
     );
 }
@@ -138,14 +138,14 @@ fn most_nodes(rt: HostRuntime) {
         judge(&Tables {
             nodes: &[NODES[1]; 8192],
             ..base()
-        },),
+        }),
         Ok(())
     );
     assert_eq!(rt;
         judge(&Tables {
             nodes: &[NODES[1]; 8193],
             ..base()
-        },),
+        }),
         too_many(Table::Nodes)
     );
 }

@@ -43,7 +43,7 @@ fn value_edges(rt: HostRuntime) {
             number(&Tables {
                 values: &values,
                 ..base()
-            },),
+            }),
             answer
         );
     }
@@ -58,7 +58,7 @@ fn event_edges(rt: HostRuntime) {
             number(&Tables {
                 events: &events,
                 ..base()
-            },),
+            }),
             answer
         );
     }
@@ -88,7 +88,7 @@ fn automaton_edges(rt: HostRuntime) {
             number(&Tables {
                 automata: &automata,
                 ..base()
-            },),
+            }),
             answer
         );
     }
@@ -125,7 +125,7 @@ fn transition_edges(rt: HostRuntime) {
                 automata: &automata,
                 transitions: &transitions,
                 ..base()
-            },),
+            }),
             answer
         );
     }
@@ -271,7 +271,7 @@ fn action_edges(rt: HostRuntime) {
             number(&Tables {
                 actions: &actions,
                 ..base()
-            },),
+            }),
             answer
         );
     }
@@ -296,7 +296,7 @@ fn node_edges(rt: HostRuntime) {
             number(&Tables {
                 nodes: &nodes,
                 ..base()
-            },),
+            }),
             answer
         );
     }
@@ -319,14 +319,14 @@ fn turn_edges(rt: HostRuntime) {
         number(&Tables {
             turns: &[0, 1],
             ..two
-        },),
+        }),
         0
     );
     assert_eq!(rt;
         number(&Tables {
             turns: &[1, 0],
             ..two
-        },),
+        }),
         0
     );
     assert_eq!(rt; number(&Tables { turns: &[], ..two }), 4);
@@ -335,35 +335,35 @@ fn turn_edges(rt: HostRuntime) {
         number(&Tables {
             turns: &[1, 1],
             ..two
-        },),
+        }),
         4
     );
     assert_eq!(rt;
         number(&Tables {
             turns: &[0, 1, 0],
             ..two
-        },),
+        }),
         4
     );
     assert_eq!(rt;
         number(&Tables {
             turns: &[0, 2],
             ..two
-        },),
+        }),
         4
     );
     assert_eq!(rt;
         number(&Tables {
             turns: &[0, 65535],
             ..two
-        },),
+        }),
         4
     );
     assert_eq!(rt;
         judge(&Tables {
             turns: &[0; 70000],
             ..two
-        },),
+        }),
         Err(LoadRefusal::Turns)
     );
 }

@@ -1,7 +1,6 @@
 // What a sheet holds after a load, and after a refused one.
 use crate::base::*;
 use sheet::{Action, Sheet, ValueKind};
-use std::process::Abort;
 use tables::{LoadRefusal, Tables, TransitionRow};
 
 #[test]
@@ -47,26 +46,24 @@ fn urgent(sheet: &Sheet, transition: usize) -> Option<bool> {
 }
 
 // That a sheet holds the base tables, as far as these questions go.
-fn holds_base(rt: &impl Abort, sheet: &Sheet) {
-    assert_eq!(rt; local_of(sheet, 0), None);
-    assert_eq!(rt; local_of(sheet, 1), Some(0));
-    assert_eq!(rt; assigned(sheet, 0), Some(1));
-    assert_eq!(rt; emitted(sheet, 1), Some(1));
-    assert_eq!(rt; urgent(sheet, 0), Some(false));
-    assert!(rt;
-        sheet.events().len() == 2
-            && sheet.automata().len() == 1
-            && sheet.turns().len() == 1
-            && sheet.guards().len() == 1
-            && sheet.nodes().len() == 4
-    );
+fn holds_base(sheet: &Sheet) -> bool {
+    local_of(sheet, 0).is_none()
+        && local_of(sheet, 1) == Some(0)
+        && assigned(sheet, 0) == Some(1)
+        && emitted(sheet, 1) == Some(1)
+        && urgent(sheet, 0) == Some(false)
+        && sheet.events().len() == 2
+        && sheet.automata().len() == 1
+        && sheet.turns().len() == 1
+        && sheet.guards().len() == 1
+        && sheet.nodes().len() == 4
 }
 
 #[test]
 fn holds_what_was_lent(rt: HostRuntime) {
     let mut sheet = Sheet::empty(rt.alloc());
     assert_eq!(rt; sheet.load(rt.alloc(), &base()), Ok(()));
-    holds_base(&rt, &sheet);
+    assert!(rt; holds_base(&sheet));
 }
 
 #[test]
@@ -95,7 +92,7 @@ fn refused_load_changes_nothing(rt: HostRuntime) {
         ),
         Err(LoadRefusal::Turns)
     );
-    holds_base(&rt, &sheet);
+    assert!(rt; holds_base(&sheet));
 }
 
 #[test]

@@ -17,7 +17,7 @@ fn counts_before_records(rt: HostRuntime) {
             values: &values,
             events: &events,
             ..base()
-        },),
+        }),
         Err(LoadRefusal::TooMany {
             table: Table::Events,
         })
@@ -33,7 +33,7 @@ fn counts_in_table_order(rt: HostRuntime) {
             automata: &automata,
             guards: &guards,
             ..base()
-        },),
+        }),
         Err(LoadRefusal::TooMany {
             table: Table::Automata,
         })
@@ -51,7 +51,7 @@ fn limits_before_indices(rt: HostRuntime) {
         judge(&Tables {
             transitions: &transitions,
             ..base()
-        },),
+        }),
         Err(LoadRefusal::Limit {
             table: Table::Transitions,
             row: 0,
@@ -76,7 +76,7 @@ fn records_in_their_order(rt: HostRuntime) {
         judge(&Tables {
             transitions: &transitions,
             ..base()
-        },),
+        }),
         Err(LoadRefusal::Outside {
             table: Table::Transitions,
             row: 1,
@@ -96,7 +96,7 @@ fn tables_in_their_order(rt: HostRuntime) {
             values: &values,
             events: &events,
             ..base()
-        },),
+        }),
         Err(LoadRefusal::Outside {
             table: Table::Values,
             row: 0,
@@ -124,7 +124,7 @@ fn records_before_states(rt: HostRuntime) {
             automata: &automata,
             nodes: &nodes,
             ..base()
-        },),
+        }),
         Err(LoadRefusal::Outside {
             table: Table::Nodes,
             row: 3,
@@ -178,7 +178,7 @@ fn automata_in_their_order(rt: HostRuntime) {
         judge(&Tables {
             automata: &automata,
             ..base()
-        },),
+        }),
         Err(LoadRefusal::NoListedState {
             automaton: 0,
             transition: 0,
@@ -195,7 +195,7 @@ fn automata_in_their_order(rt: HostRuntime) {
         judge(&Tables {
             automata: &automata,
             ..base()
-        },),
+        }),
         Err(LoadRefusal::NoInitialState { automaton: 1 })
     );
 }

@@ -58,7 +58,7 @@ static HELD: [(i32, i32, i32, bool); 18] = [
 #[test]
 fn held_numbers(rt: HostRuntime) -> Result<(), Fail> {
     for &(lo, hi, number, holds) in &HELD {
-        let range = span(&rt, lo, hi)?;
+        let range = span(lo, hi)?;
         assert_eq!(rt; Ranges::holds(range, number), holds, "{}", number);
         let expected = if holds { Some(number) } else { None };
         assert_eq!(rt; Ranges::decode(range, number), expected, "{}", number);
@@ -107,11 +107,11 @@ static WITHIN: [(Ends, Ends, bool); 17] = [
 #[test]
 fn rests_and_ranges_within(rt: HostRuntime) -> Result<(), Fail> {
     for &(lo, hi, expected) in &RESTS {
-        assert_eq!(rt; Ranges::rest(span(&rt, lo, hi)?), expected, "{lo} to {hi}");
+        assert_eq!(rt; Ranges::rest(span(lo, hi)?), expected, "{lo} to {hi}");
     }
     for &(inner, outer, expected) in &WITHIN {
         assert_eq!(rt;
-            Ranges::within(span(&rt, inner.0, inner.1)?, span(&rt, outer.0, outer.1)?),
+            Ranges::within(span(inner.0, inner.1)?, span(outer.0, outer.1)?),
             expected,
             "{inner:?} in {outer:?}"
         );

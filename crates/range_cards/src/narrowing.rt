@@ -2,30 +2,22 @@
 use crate::nodes::*;
 use guest::{Guest, Narrowing};
 use ranges::Ranges;
-use std::process::Abort;
 use std::test::Fail;
 use tables::Node;
 
 // Narrows three values of one range by a guard. The second then has the range `after`, and the others are as they were.
-fn leaves(
-    rt: &impl Abort,
-    nodes: &[Node],
-    before: Ends,
-    expected: Narrowing,
-    after: Ends,
-) -> Result<(), Fail> {
-    let mut types = [span(rt, before.0, before.1)?; 3];
-    assert_eq!(rt;
-        Ranges::narrow(nodes, &mut types),
-        expected,
-        "{}; {}",
-        Expression(nodes),
-        format_args!("on {before:?}")
-    );
-    assert_eq!(rt; ends(Some(types[0])), Some(before), "{}", Expression(nodes));
-    assert_eq!(rt; ends(Some(types[1])), Some(after), "{}", Expression(nodes));
-    assert_eq!(rt; ends(Some(types[2])), Some(before), "{}", Expression(nodes));
-    Ok(())
+fn leaves(nodes: &[Node], before: Ends, expected: Narrowing, after: Ends) -> Result<(), Fail> {
+    let guard = Expression(nodes);
+    let mut types = [span(before.0, before.1)?; 3];
+    let (lo, hi) = before;
+    check_eq(
+        &Ranges::narrow(nodes, &mut types),
+        &expected,
+        &format_args!("{guard} on {lo} to {hi}"),
+    )?;
+    check_eq(&ends(Some(types[0])), &Some(before), &guard)?;
+    check_eq(&ends(Some(types[1])), &Some(after), &guard)?;
+    check_eq(&ends(Some(types[2])), &Some(before), &guard)
 }
 
 const WORDS: Ends = (LEAST, MOST);
@@ -127,16 +119,16 @@ static CUTS: [(Node, i32, Ends, Option<Ends>); 92] = [
 ];
 
 #[test]
-fn comparisons_with_a_constant(rt: HostRuntime) -> Result<(), Fail> {
+fn comparisons_with_a_constant() -> Result<(), Fail> {
     for &(order, constant, before, after) in &CUTS {
         let nodes = [order, SECOND, num(constant)];
         match after {
-            Some(after) => leaves(&rt, &nodes, before, Narrowing::Narrowed, after)?,
-            None => leaves(&rt, &nodes, before, Narrowing::Never, before)?,
+            Some(after) => leaves(&nodes, before, Narrowing::Narrowed, after)?,
+            None => leaves(&nodes, before, Narrowing::Never, before)?,
         }
         // a constant on the left does not narrow
         let turned = [order, num(constant), SECOND];
-        leaves(&rt, &turned, before, Narrowing::Narrowed, before)?;
+        leaves(&turned, before, Narrowing::Narrowed, before)?;
     }
     Ok(())
 }
@@ -231,12 +223,12 @@ static NO_GUARDS: [&[Node]; 24] = [
 ];
 
 #[test]
-fn other_guards_and_no_guards(rt: HostRuntime) -> Result<(), Fail> {
+fn other_guards_and_no_guards() -> Result<(), Fail> {
     for &nodes in &OTHER_GUARDS {
-        leaves(&rt, nodes, (1, 8), Narrowing::Narrowed, (1, 8))?;
+        leaves(nodes, (1, 8), Narrowing::Narrowed, (1, 8))?;
     }
     for &nodes in &NO_GUARDS {
-        leaves(&rt, nodes, (1, 8), Narrowing::NoGuard, (1, 8))?;
+        leaves(nodes, (1, 8), Narrowing::NoGuard, (1, 8))?;
     }
     Ok(())
 }
@@ -244,7 +236,7 @@ fn other_guards_and_no_guards(rt: HostRuntime) -> Result<(), Fail> {
 // The first and the last value of a row, and a row without values.
 #[test]
 fn only_the_value_that_is_read(rt: HostRuntime) -> Result<(), Fail> {
-    let mut types = [span(&rt, 5, 6)?, span(&rt, 1, 8)?, span(&rt, -1, 1)?];
+    let mut types = [span(5, 6)?, span(1, 8)?, span(-1, 1)?];
     assert_eq!(rt;
         Ranges::narrow(&[LT, FIRST, num(6)], &mut types),
         Narrowing::Narrowed

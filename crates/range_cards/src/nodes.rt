@@ -3,7 +3,6 @@ use guest::Guest;
 use intervals::Range;
 use ranges::Ranges;
 use std::fmt;
-use std::process::Abort;
 use std::test::Fail;
 use tables::Node;
 
@@ -163,11 +162,11 @@ pub(crate) fn read(place: i32) -> Node {
 pub(crate) type Ends = (i32, i32);
 
 // The range from `lo` to `hi`, which may be as wide as the word range.
-pub(crate) fn span(rt: &impl Abort, lo: i32, hi: i32) -> Result<Range, Fail> {
+pub(crate) fn span(lo: i32, hi: i32) -> Result<Range, Fail> {
     let either = [IF, EQ, ZERO, ZERO, num(lo), num(hi)];
     match Ranges::typed(&either, &[]) {
         Some(range) => {
-            assert!(rt; range.lo == lo && range.hi == hi);
+            check_eq(&(range.lo, range.hi), &(lo, hi), &Expression(&either))?;
             Ok(range)
         }
         None => Err(Fail::new("no range")),
@@ -195,4 +194,16 @@ impl fmt::Display for Expression<'_> {
         }
         Ok(())
     }
+}
+
+// Fails unless an answer is the expected one, and then shows both and what was asked.
+pub(crate) fn check_eq<T: PartialEq + fmt::Debug, W: fmt::Display>(
+    answer: &T,
+    expected: &T,
+    asked: &W,
+) -> Result<(), Fail> {
+    if answer == expected {
+        return Ok(());
+    }
+    Err(Fail::new(format_args!("{asked}: {answer:?} in place of {expected:?}")))
 }

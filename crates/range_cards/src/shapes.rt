@@ -2,52 +2,43 @@
 use crate::nodes::*;
 use guest::{Guest, Narrowing, Reason};
 use ranges::Ranges;
-use std::process::Abort;
 use std::test::Fail;
 use tables::Node;
 
 // As a right side the nodes have neither a value nor a type.
-fn no_number(rt: &impl Abort, nodes: &[Node]) -> Result<(), Fail> {
-    assert_eq!(rt;
-        Ranges::value(nodes, &[7, -7]),
-        Err(Reason::BadShape),
-        "{}",
-        Expression(nodes)
-    );
-    let types = [span(rt, 1, 9)?, span(rt, -9, -1)?];
-    assert_eq!(rt;
-        ends(Ranges::typed(nodes, &types)),
-        None,
-        "{}",
-        Expression(nodes)
-    );
-    Ok(())
+fn no_number(nodes: &[Node]) -> Result<(), Fail> {
+    let asked = Expression(nodes);
+    check_eq(
+        &Ranges::value(nodes, &[7, -7]),
+        &Err(Reason::BadShape),
+        &asked,
+    )?;
+    let types = [span(1, 9)?, span(-9, -1)?];
+    check_eq(&ends(Ranges::typed(nodes, &types)), &None, &asked)
 }
 
 // As a guard the nodes have no verdict and narrow nothing.
-fn no_truth(rt: &impl Abort, nodes: &[Node]) -> Result<(), Fail> {
-    assert_eq!(rt;
-        Ranges::verdict(nodes, &[7, -7]),
-        Err(Reason::BadShape),
-        "{}",
-        Expression(nodes)
-    );
-    let mut types = [span(rt, 1, 9)?, span(rt, -9, -1)?];
-    assert_eq!(rt;
-        Ranges::narrow(nodes, &mut types),
-        Narrowing::NoGuard,
-        "{}",
-        Expression(nodes)
-    );
-    assert_eq!(rt; ends(Some(types[0])), Some((1, 9)));
-    assert_eq!(rt; ends(Some(types[1])), Some((-9, -1)));
-    Ok(())
+fn no_truth(nodes: &[Node]) -> Result<(), Fail> {
+    let asked = Expression(nodes);
+    check_eq(
+        &Ranges::verdict(nodes, &[7, -7]),
+        &Err(Reason::BadShape),
+        &asked,
+    )?;
+    let mut types = [span(1, 9)?, span(-9, -1)?];
+    check_eq(
+        &Ranges::narrow(nodes, &mut types),
+        &Narrowing::NoGuard,
+        &asked,
+    )?;
+    check_eq(&ends(Some(types[0])), &Some((1, 9)), &asked)?;
+    check_eq(&ends(Some(types[1])), &Some((-9, -1)), &asked)
 }
 
-fn no_expressions(rt: &impl Abort, all: &[&[Node]]) -> Result<(), Fail> {
+fn no_expressions(all: &[&[Node]]) -> Result<(), Fail> {
     for nodes in all {
-        no_number(rt, nodes)?;
-        no_truth(rt, nodes)?;
+        no_number(nodes)?;
+        no_truth(nodes)?;
     }
     Ok(())
 }
@@ -138,11 +129,11 @@ static AFTER_A_REASON: [&[Node]; 12] = [
 ];
 
 #[test]
-fn bad_shapes(rt: HostRuntime) -> Result<(), Fail> {
-    no_expressions(&rt, &MISSING)?;
-    no_expressions(&rt, &LEFT_OVER)?;
-    no_expressions(&rt, &WRONG_SORT)?;
-    no_expressions(&rt, &AFTER_A_REASON)
+fn bad_shapes() -> Result<(), Fail> {
+    no_expressions(&MISSING)?;
+    no_expressions(&LEFT_OVER)?;
+    no_expressions(&WRONG_SORT)?;
+    no_expressions(&AFTER_A_REASON)
 }
 
 // Right sides that are no guard, and their values on the row 7, -7.
@@ -171,39 +162,37 @@ static TRUTHS: [(&[Node], bool); 9] = [
     (&[OR, LT, ONE, TWO, EQ, ONE, TWO], true),
 ];
 
-fn number(rt: &impl Abort, nodes: &[Node], expected: i32) -> Result<(), Fail> {
-    assert_eq!(rt;
-        Ranges::value(nodes, &[7, -7]),
-        Ok(expected),
-        "{}",
-        Expression(nodes)
-    );
-    no_truth(rt, nodes)
+fn number(nodes: &[Node], expected: i32) -> Result<(), Fail> {
+    check_eq(
+        &Ranges::value(nodes, &[7, -7]),
+        &Ok(expected),
+        &Expression(nodes),
+    )?;
+    no_truth(nodes)
 }
 
-fn truth(rt: &impl Abort, nodes: &[Node], expected: bool) -> Result<(), Fail> {
-    assert_eq!(rt;
-        Ranges::verdict(nodes, &[7, -7]),
-        Ok(expected),
-        "{}",
-        Expression(nodes)
-    );
-    no_number(rt, nodes)
+fn truth(nodes: &[Node], expected: bool) -> Result<(), Fail> {
+    check_eq(
+        &Ranges::verdict(nodes, &[7, -7]),
+        &Ok(expected),
+        &Expression(nodes),
+    )?;
+    no_number(nodes)
 }
 
 #[test]
-fn one_sort_is_not_the_other(rt: HostRuntime) -> Result<(), Fail> {
+fn one_sort_is_not_the_other() -> Result<(), Fail> {
     for &(nodes, expected) in &NUMBERS {
-        number(&rt, nodes, expected)?;
+        number(nodes, expected)?;
     }
     for &(nodes, expected) in &TRUTHS {
-        truth(&rt, nodes, expected)?;
+        truth(nodes, expected)?;
     }
     Ok(())
 }
 
 // A node that stands for nothing, with operands of every sort that an operation may have, and as an operand.
-fn stands_for_nothing(rt: &impl Abort, node: Node) -> Result<(), Fail> {
+fn stands_for_nothing(node: Node) -> Result<(), Fail> {
     let all: [&[Node]; 11] = [
         &[node],
         &[node, ONE],
@@ -217,7 +206,7 @@ fn stands_for_nothing(rt: &impl Abort, node: Node) -> Result<(), Fail> {
         &[OR, LT, ONE, TWO, LT, node, ONE],
         &[NOT, node, ONE, ONE],
     ];
-    no_expressions(rt, &all)
+    no_expressions(&all)
 }
 
 static OPERATIONS: [u8; 15] = [2, 3, 4, 5, 8, 9, 16, 17, 18, 19, 20, 21, 22, 23, 24];
@@ -227,20 +216,20 @@ static UNKNOWN: [u8; 17] = [
 ];
 
 #[test]
-fn nodes_that_stand_for_nothing(rt: HostRuntime) -> Result<(), Fail> {
+fn nodes_that_stand_for_nothing() -> Result<(), Fail> {
     for &code in &OPERATIONS {
         for argument in [1, -1, 256, LEAST, MOST] {
-            stands_for_nothing(&rt, Node { code, argument })?;
+            stands_for_nothing(Node { code, argument })?;
         }
     }
     for &code in &UNKNOWN {
         for argument in [0, 1] {
-            stands_for_nothing(&rt, Node { code, argument })?;
+            stands_for_nothing(Node { code, argument })?;
         }
     }
     // reads beyond the row
     for argument in [2, 3, 128, MOST, -1, -2, LEAST] {
-        stands_for_nothing(&rt, Node { code: 0, argument })?;
+        stands_for_nothing(Node { code: 0, argument })?;
     }
     Ok(())
 }
@@ -263,16 +252,16 @@ fn many_nots(rt: HostRuntime) -> Result<(), Fail> {
     even[40] = LT;
     even[41] = SECOND;
     even[42] = ZERO;
-    truth(&rt, &even, true)?;
+    truth(&even, true)?;
     let mut odd = [NOT; 44];
     odd[41] = LT;
     odd[42] = SECOND;
     odd[43] = ZERO;
-    truth(&rt, &odd, false)?;
-    let mut types = [span(&rt, 1, 9)?, span(&rt, -9, 9)?];
+    truth(&odd, false)?;
+    let mut types = [span(1, 9)?, span(-9, 9)?];
     assert_eq!(rt; Ranges::narrow(&odd, &mut types), Narrowing::Narrowed);
     assert_eq!(rt; ends(Some(types[1])), Some((-9, 9)));
-    no_expressions(&rt, &[&[NOT; 33]])
+    no_expressions(&[&[NOT; 33]])
 }
 
 // 16 sums, each the first term of the one before.
@@ -289,9 +278,9 @@ static SUMS_ON_THE_RIGHT: [Node; 35] = [
 
 #[test]
 fn many_terms(rt: HostRuntime) -> Result<(), Fail> {
-    number(&rt, &SUMS_ON_THE_LEFT, 17)?;
+    number(&SUMS_ON_THE_LEFT, 17)?;
     assert_eq!(rt; ends(Ranges::typed(&SUMS_ON_THE_LEFT, &[])), Some((17, 17)));
-    number(&rt, &SUMS_ON_THE_RIGHT, 27)?;
+    number(&SUMS_ON_THE_RIGHT, 27)?;
     let mut last_leaves_the_word = SUMS_ON_THE_LEFT;
     last_leaves_the_word[32] = MAX;
     assert_eq!(rt;
@@ -301,5 +290,5 @@ fn many_terms(rt: HostRuntime) -> Result<(), Fail> {
     assert_eq!(rt; ends(Ranges::typed(&last_leaves_the_word, &[])), None);
     let mut bytes = [BYTE; 100];
     bytes[99] = MINUS_ONE;
-    number(&rt, &bytes, 255)
+    number(&bytes, 255)
 }

@@ -141,7 +141,7 @@ fn operand(place: i32, of: Ends) -> Node {
 #[test]
 fn arithmetic(rt: HostRuntime) -> Result<(), Fail> {
     for &(operation, a, b, expected) in &ARITHMETIC {
-        let types = [span(&rt, a.0, a.1)?, span(&rt, b.0, b.1)?];
+        let types = [span(a.0, a.1)?, span(b.0, b.1)?];
         let from_row = [operation, read(0), read(1)];
         let with_constants = [operation, operand(0, a), operand(1, b)];
         let code = operation.code;
@@ -227,7 +227,7 @@ static EXPRESSIONS: [(&[Node], Option<Ends>); 37] = [
 
 #[test]
 fn choices_and_bytes(rt: HostRuntime) -> Result<(), Fail> {
-    let types = [span(&rt, 1, 3)?, span(&rt, 0, 2)?, span(&rt, LEAST, MOST)?];
+    let types = [span(1, 3)?, span(0, 2)?, span(LEAST, MOST)?];
     for &(nodes, expected) in &EXPRESSIONS {
         assert_eq!(rt;
             ends(Ranges::typed(nodes, &types)),
@@ -241,7 +241,7 @@ fn choices_and_bytes(rt: HostRuntime) -> Result<(), Fail> {
 
 #[test]
 fn next_gear(rt: HostRuntime) -> Result<(), Fail> {
-    let mut types = [span(&rt, 1, 3)?];
+    let mut types = [span(1, 3)?];
     let next = [ADD, FIRST, ONE];
     assert_eq!(rt; ends(Ranges::typed(&next, &types)), Some((2, 4)));
     assert_eq!(rt;

@@ -2,7 +2,7 @@
 use crate::nodes::*;
 use guest::{Guest, Reason};
 use ranges::Ranges;
-use std::process::Abort;
+use std::test::Fail;
 use tables::Node;
 
 const BY_ZERO: Reason = Reason::DivisorZero;
@@ -172,40 +172,35 @@ static COMPARISONS: [(Node, bool, bool, bool); 6] = [
 ];
 
 // By a guard, by its opposite, and by a choice.
-fn compares(rt: &impl Abort, order: Node, a: i32, b: i32, expected: bool) {
+fn compares(order: Node, a: i32, b: i32, expected: bool) -> Result<(), Fail> {
     let nodes = [order, num(a), num(b)];
-    assert_eq!(rt;
-        Ranges::verdict(&nodes, &[]),
-        Ok(expected),
-        "{}",
-        Expression(&nodes)
-    );
-    assert_eq!(rt;
-        Ranges::verdict(&[NOT, order, read(0), read(1)], &[a, b]),
-        Ok(!expected),
-        "{}",
-        Expression(&nodes)
-    );
-    assert_eq!(rt;
-        Ranges::value(&[IF, order, read(0), read(1), THREE, FOUR], &[a, b]),
-        Ok(if expected { 3 } else { 4 }),
-        "{}",
-        Expression(&nodes)
-    );
+    let guard = Expression(&nodes);
+    check_eq(&Ranges::verdict(&nodes, &[]), &Ok(expected), &guard)?;
+    check_eq(
+        &Ranges::verdict(&[NOT, order, read(0), read(1)], &[a, b]),
+        &Ok(!expected),
+        &guard,
+    )?;
+    check_eq(
+        &Ranges::value(&[IF, order, read(0), read(1), THREE, FOUR], &[a, b]),
+        &Ok(if expected { 3 } else { 4 }),
+        &guard,
+    )
 }
 
 #[test]
-fn comparisons(rt: HostRuntime) {
+fn comparisons() -> Result<(), Fail> {
     for &(order, rising, equal, falling) in &COMPARISONS {
-        compares(&rt, order, -1, 0, rising);
-        compares(&rt, order, MOST - 1, MOST, rising);
-        compares(&rt, order, LEAST, MOST, rising);
-        compares(&rt, order, 0, 0, equal);
-        compares(&rt, order, LEAST, LEAST, equal);
-        compares(&rt, order, MOST, MOST, equal);
-        compares(&rt, order, 0, -1, falling);
-        compares(&rt, order, MOST, LEAST, falling);
+        compares(order, -1, 0, rising)?;
+        compares(order, MOST - 1, MOST, rising)?;
+        compares(order, LEAST, MOST, rising)?;
+        compares(order, 0, 0, equal)?;
+        compares(order, LEAST, LEAST, equal)?;
+        compares(order, MOST, MOST, equal)?;
+        compares(order, 0, -1, falling)?;
+        compares(order, MOST, LEAST, falling)?;
     }
+    Ok(())
 }
 
 // Guards and their verdicts on the row 7, -7. `EQ, ONE, ONE` is yes, and `EQ, ONE, TWO` is no.

@@ -42,7 +42,8 @@ fn product(r: Range, s: Range) -> Option<Range>
 }
 
 fn quotients(r: Range, s: Range) -> Option<Range>
-    requires { ((s.lo ≢ pos 0)) × ((s.hi ≢ pos 0)) }
+    requires lo { s.lo ≢ pos 0 }
+    requires hi { s.hi ≢ pos 0 }
     ensures { result ≡ corners int_div r s }
 {
     around(
