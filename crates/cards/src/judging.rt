@@ -1,8 +1,8 @@
 // The judgement at the edges of each limit and each table.
 use crate::base::*;
 use tables::{
-    ActionRow, Automaton, EventRow, Guard, LoadRefusal, Node, Stretch, Tables, TransitionRow,
-    ValueRow, judge,
+    ActionRow, Automaton, EventRow, Guard, LoadRefusal, Node, Stretch, TransitionRow, ValueRow,
+    judge,
 };
 
 #[test]
@@ -39,13 +39,7 @@ fn value_edges(rt: HostRuntime) {
                 b: 0,
             },
         ];
-        assert_eq!(rt;
-            number(&Tables {
-                values: &values,
-                ..base()
-            }),
-            answer
-        );
+        assert_eq!(rt; number(&base().with(&values)), answer);
     }
 }
 
@@ -54,13 +48,7 @@ fn event_edges(rt: HostRuntime) {
     let cases: [(u16, u8); 5] = [(0, 0), (1, 0), (2, 0), (3, 2), (65535, 2)];
     for (kind, answer) in cases {
         let events = [EVENTS[0], EventRow { kind }];
-        assert_eq!(rt;
-            number(&Tables {
-                events: &events,
-                ..base()
-            }),
-            answer
-        );
+        assert_eq!(rt; number(&base().with(&events)), answer);
     }
 }
 
@@ -84,13 +72,7 @@ fn automaton_edges(rt: HostRuntime) {
             actions: NONE,
             transitions: NONE,
         }];
-        assert_eq!(rt;
-            number(&Tables {
-                automata: &automata,
-                ..base()
-            }),
-            answer
-        );
+        assert_eq!(rt; number(&base().with(&automata)), answer);
     }
 }
 
@@ -120,14 +102,7 @@ fn transition_edges(rt: HostRuntime) {
             urgent,
             ..TRANSITIONS[0]
         }];
-        assert_eq!(rt;
-            number(&Tables {
-                automata: &automata,
-                transitions: &transitions,
-                ..base()
-            }),
-            answer
-        );
+        assert_eq!(rt; number(&base().with(&automata).with(&transitions)), answer);
     }
 }
 
@@ -142,14 +117,6 @@ const STRETCHES: [(u16, u16, u8); 7] = [
     (65535, 65535, 3),
 ];
 
-fn automaton_number<'a>(automata: &'a [Automaton], transitions: &'a [TransitionRow]) -> u8 {
-    number(&Tables {
-        automata,
-        transitions,
-        ..base()
-    })
-}
-
 #[test]
 fn automaton_stretches(rt: HostRuntime) {
     let transitions = [TRANSITIONS[0], TRANSITIONS[0]];
@@ -159,21 +126,13 @@ fn automaton_stretches(rt: HostRuntime) {
             actions: part,
             ..AUTOMATA[0]
         }];
-        assert_eq!(rt; automaton_number(&automata, &TRANSITIONS), answer);
+        assert_eq!(rt; number(&base().with(&automata)), answer);
         let automata = [Automaton {
             transitions: part,
             ..AUTOMATA[0]
         }];
-        assert_eq!(rt; automaton_number(&automata, &transitions), answer);
+        assert_eq!(rt; number(&base().with(&automata).with(&transitions)), answer);
     }
-}
-
-fn transition_number<'a>(transitions: &'a [TransitionRow], guards: &'a [Guard]) -> u8 {
-    number(&Tables {
-        transitions,
-        guards,
-        ..base()
-    })
 }
 
 #[test]
@@ -185,29 +144,13 @@ fn transition_stretches(rt: HostRuntime) {
             guards: part,
             ..TRANSITIONS[0]
         }];
-        assert_eq!(rt; transition_number(&transitions, &guards), answer);
+        assert_eq!(rt; number(&base().with(&transitions).with(&guards)), answer);
         let transitions = [TransitionRow {
             actions: part,
             ..TRANSITIONS[0]
         }];
-        assert_eq!(rt; transition_number(&transitions, &GUARDS), answer);
+        assert_eq!(rt; number(&base().with(&transitions)), answer);
     }
-}
-
-fn guard_number<'a>(guards: &'a [Guard], nodes: &'a [Node]) -> u8 {
-    number(&Tables {
-        guards,
-        nodes,
-        ..base()
-    })
-}
-
-fn action_number<'a>(actions: &'a [ActionRow], nodes: &'a [Node]) -> u8 {
-    number(&Tables {
-        actions,
-        nodes,
-        ..base()
-    })
 }
 
 #[test]
@@ -227,20 +170,18 @@ fn expression_edges(rt: HostRuntime) {
     ];
     for (first, count, answer) in cases {
         let part = Stretch { first, count };
-        assert_eq!(rt; guard_number(&[Guard { nodes: part }], &nodes), answer);
+        let actions = [
+            ActionRow {
+                nodes: part,
+                ..ACTIONS[0]
+            },
+            ACTIONS[1],
+        ];
         assert_eq!(rt;
-            action_number(
-                &[
-                    ActionRow {
-                        nodes: part,
-                        ..ACTIONS[0]
-                    },
-                    ACTIONS[1],
-                ],
-                &nodes,
-            ),
+            number(&base().with(&[Guard { nodes: part }]).with(&nodes)),
             answer
         );
+        assert_eq!(rt; number(&base().with(&actions).with(&nodes)), answer);
     }
 }
 
@@ -267,13 +208,7 @@ fn action_edges(rt: HostRuntime) {
                 nodes: Stretch { first, count },
             },
         ];
-        assert_eq!(rt;
-            number(&Tables {
-                actions: &actions,
-                ..base()
-            }),
-            answer
-        );
+        assert_eq!(rt; number(&base().with(&actions)), answer);
     }
 }
 
@@ -292,78 +227,38 @@ fn node_edges(rt: HostRuntime) {
     ];
     for (code, argument, answer) in cases {
         let nodes = [NODES[0], NODES[1], NODES[2], Node { code, argument }];
-        assert_eq!(rt;
-            number(&Tables {
-                nodes: &nodes,
-                ..base()
-            }),
-            answer
-        );
+        assert_eq!(rt; number(&base().with(&nodes)), answer);
     }
 }
 
+// Automata that lean on no other table.
+static TWO: [Automaton; 2] = [Automaton {
+    states: 1,
+    initial: 0,
+    actions: NONE,
+    transitions: NONE,
+}; 2];
+
+// Turn lists of two automata, and their answers.
+static TURNS: [(&[u16], u8); 8] = [
+    (&[0, 1], 0),
+    (&[1, 0], 0),
+    (&[], 4),
+    (&[1], 4),
+    (&[1, 1], 4),
+    (&[0, 1, 0], 4),
+    (&[0, 2], 4),
+    (&[0, 65535], 4),
+];
+
 #[test]
 fn turn_edges(rt: HostRuntime) {
-    let one = Automaton {
-        states: 1,
-        initial: 0,
-        actions: NONE,
-        transitions: NONE,
-    };
-    let automata = [one, one];
-    let two = Tables {
-        automata: &automata,
-        ..base()
-    };
+    let two = base().with(&TWO);
+    for &(turns, answer) in &TURNS {
+        assert_eq!(rt; number(&two.with_turns(turns)), answer);
+    }
     assert_eq!(rt;
-        number(&Tables {
-            turns: &[0, 1],
-            ..two
-        }),
-        0
-    );
-    assert_eq!(rt;
-        number(&Tables {
-            turns: &[1, 0],
-            ..two
-        }),
-        0
-    );
-    assert_eq!(rt; number(&Tables { turns: &[], ..two }), 4);
-    assert_eq!(rt; number(&Tables { turns: &[1], ..two }), 4);
-    assert_eq!(rt;
-        number(&Tables {
-            turns: &[1, 1],
-            ..two
-        }),
-        4
-    );
-    assert_eq!(rt;
-        number(&Tables {
-            turns: &[0, 1, 0],
-            ..two
-        }),
-        4
-    );
-    assert_eq!(rt;
-        number(&Tables {
-            turns: &[0, 2],
-            ..two
-        }),
-        4
-    );
-    assert_eq!(rt;
-        number(&Tables {
-            turns: &[0, 65535],
-            ..two
-        }),
-        4
-    );
-    assert_eq!(rt;
-        judge(&Tables {
-            turns: &[0; 70000],
-            ..two
-        }),
+        judge(&two.with_turns(&[0; 70000])),
         Err(LoadRefusal::Turns)
     );
 }

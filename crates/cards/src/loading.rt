@@ -1,7 +1,7 @@
 // What a sheet holds after a load, and after a refused one.
 use crate::base::*;
 use sheet::{Action, Sheet, ValueKind};
-use tables::{LoadRefusal, Tables, TransitionRow};
+use tables::{LoadRefusal, TransitionRow};
 
 #[test]
 fn begins_empty(rt: HostRuntime) {
@@ -70,26 +70,11 @@ fn holds_what_was_lent(rt: HostRuntime) {
 fn refused_load_changes_nothing(rt: HostRuntime) {
     let mut sheet = Sheet::empty(rt.alloc());
     assert_eq!(rt; sheet.load(rt.alloc(), &base()), Ok(()));
-    assert_eq!(rt;
-        sheet.load(
-            rt.alloc(),
-            &Tables {
-                turns: &[],
-                ..nothing()
-            },
-        ),
-        Ok(())
-    );
+    assert_eq!(rt; sheet.load(rt.alloc(), &nothing().with_turns(&[]),), Ok(()));
     assert!(rt; sheet.nodes().is_empty());
     assert_eq!(rt; sheet.load(rt.alloc(), &base()), Ok(()));
     assert_eq!(rt;
-        sheet.load(
-            rt.alloc(),
-            &Tables {
-                turns: &[1],
-                ..base()
-            },
-        ),
+        sheet.load(rt.alloc(), &base().with_turns(&[1]),),
         Err(LoadRefusal::Turns)
     );
     assert!(rt; holds_base(&sheet));
@@ -103,15 +88,6 @@ fn later_load_replaces(rt: HostRuntime) {
         urgent: 1,
         ..TRANSITIONS[0]
     }];
-    assert_eq!(rt;
-        sheet.load(
-            rt.alloc(),
-            &Tables {
-                transitions: &transitions,
-                ..base()
-            },
-        ),
-        Ok(())
-    );
+    assert_eq!(rt; sheet.load(rt.alloc(), &base().with(&transitions)), Ok(()));
     assert_eq!(rt; urgent(&sheet, 0), Some(true));
 }

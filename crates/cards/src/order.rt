@@ -1,8 +1,7 @@
 // Where two faults coincide, the one that is judged first decides. Each answer names the record.
 use crate::base::*;
 use tables::{
-    Automaton, EventRow, Guard, LoadRefusal, Node, Stretch, Table, Tables, TransitionRow, ValueRow,
-    judge,
+    Automaton, EventRow, Guard, LoadRefusal, Node, Stretch, Table, TransitionRow, ValueRow, judge,
 };
 
 #[test]
@@ -13,11 +12,7 @@ fn counts_before_records(rt: HostRuntime) {
     }; 2];
     let events = [EVENTS[0]; 65];
     assert_eq!(rt;
-        judge(&Tables {
-            values: &values,
-            events: &events,
-            ..base()
-        }),
+        judge(&base().with(&values).with(&events)),
         Err(LoadRefusal::TooMany {
             table: Table::Events,
         })
@@ -29,11 +24,7 @@ fn counts_in_table_order(rt: HostRuntime) {
     let guards = [GUARDS[0]; 1025];
     let automata = [AUTOMATA[0]; 33];
     assert_eq!(rt;
-        judge(&Tables {
-            automata: &automata,
-            guards: &guards,
-            ..base()
-        }),
+        judge(&base().with(&automata).with(&guards)),
         Err(LoadRefusal::TooMany {
             table: Table::Automata,
         })
@@ -48,10 +39,7 @@ fn limits_before_indices(rt: HostRuntime) {
         ..TRANSITIONS[0]
     }];
     assert_eq!(rt;
-        judge(&Tables {
-            transitions: &transitions,
-            ..base()
-        }),
+        judge(&base().with(&transitions)),
         Err(LoadRefusal::Limit {
             table: Table::Transitions,
             row: 0,
@@ -73,10 +61,7 @@ fn records_in_their_order(rt: HostRuntime) {
         },
     ];
     assert_eq!(rt;
-        judge(&Tables {
-            transitions: &transitions,
-            ..base()
-        }),
+        judge(&base().with(&transitions)),
         Err(LoadRefusal::Outside {
             table: Table::Transitions,
             row: 1,
@@ -92,11 +77,7 @@ fn tables_in_their_order(rt: HostRuntime) {
     }];
     let events = [EventRow { kind: 3 }];
     assert_eq!(rt;
-        judge(&Tables {
-            values: &values,
-            events: &events,
-            ..base()
-        }),
+        judge(&base().with(&values).with(&events)),
         Err(LoadRefusal::Outside {
             table: Table::Values,
             row: 0,
@@ -120,11 +101,7 @@ fn records_before_states(rt: HostRuntime) {
         },
     ];
     assert_eq!(rt;
-        judge(&Tables {
-            automata: &automata,
-            nodes: &nodes,
-            ..base()
-        }),
+        judge(&base().with(&automata).with(&nodes)),
         Err(LoadRefusal::Outside {
             table: Table::Nodes,
             row: 3,
@@ -145,12 +122,7 @@ fn states_before_turns(rt: HostRuntime) {
         destination: 0,
         ..TRANSITIONS[0]
     }];
-    let tables = Tables {
-        automata: &automata,
-        transitions: &transitions,
-        turns: &[],
-        ..base()
-    };
+    let tables = base().with(&automata).with(&transitions).with_turns(&[]);
     assert_eq!(rt;
         judge(&tables),
         Err(LoadRefusal::NoListedState {
@@ -175,10 +147,7 @@ fn automata_in_their_order(rt: HostRuntime) {
         },
     ];
     assert_eq!(rt;
-        judge(&Tables {
-            automata: &automata,
-            ..base()
-        }),
+        judge(&base().with(&automata)),
         Err(LoadRefusal::NoListedState {
             automaton: 0,
             transition: 0,
@@ -192,23 +161,9 @@ fn automata_in_their_order(rt: HostRuntime) {
         },
     ];
     assert_eq!(rt;
-        judge(&Tables {
-            automata: &automata,
-            ..base()
-        }),
+        judge(&base().with(&automata)),
         Err(LoadRefusal::NoInitialState { automaton: 1 })
     );
-}
-
-fn judge_transitions(transitions: &[TransitionRow]) -> Result<(), LoadRefusal> {
-    judge(&Tables {
-        transitions,
-        ..base()
-    })
-}
-
-fn judge_guards(guards: &[Guard]) -> Result<(), LoadRefusal> {
-    judge(&Tables { guards, ..base() })
 }
 
 #[test]
@@ -222,7 +177,7 @@ fn unlisted_records(rt: HostRuntime) {
             ..TRANSITIONS[0]
         },
     ];
-    assert_eq!(rt; judge_transitions(&transitions), Ok(()));
+    assert_eq!(rt; judge(&base().with(&transitions)), Ok(()));
     let guards = [
         GUARDS[0],
         Guard {
@@ -230,7 +185,7 @@ fn unlisted_records(rt: HostRuntime) {
         },
     ];
     assert_eq!(rt;
-        judge_guards(&guards),
+        judge(&base().with(&guards)),
         Err(LoadRefusal::Limit {
             table: Table::Guards,
             row: 1,

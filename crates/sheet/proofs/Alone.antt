@@ -6,13 +6,14 @@ use Rattle.tables.specs.declared.TransitionRow.{TransitionRow}
 use Rattle.tables.specs.declared.ActionRow.{ActionRow}
 use Rattle.tables.specs.declared.Stretch.{Stretch}
 use Rattle.tables.specs.Tables.{Lent}
-use Rattle.sheet.specs.declared.records.Value.{Value}
-use Rattle.sheet.specs.declared.records.ValueKind as ValueKinds
-use Rattle.sheet.specs.declared.records.EventKind as EventKinds
-use Rattle.sheet.specs.declared.records.Transition.{Transition}
-use Rattle.sheet.specs.declared.records.Action.{Action}
-use Rattle.sheet.specs.declared.records.Action.TheVariants.{Emit, Assign}
-use Rattle.sheet.specs.Contents.{Contents, value_kind, value_owner, value_row, event_row, transition_row, action_row, written}
+use Rattle.tables.specs.declared.Value.{Value}
+use Rattle.tables.specs.declared.ValueKind as ValueKinds
+use Rattle.tables.specs.declared.EventKind as EventKinds
+use Rattle.tables.specs.declared.Transition.{Transition}
+use Rattle.tables.specs.declared.Action.{Action}
+use Rattle.tables.specs.declared.Action.TheVariants.{Emit, Assign}
+use Rattle.tables.specs.Records.{value_kind, value_owner, value_row, event_row, transition_row, action_row}
+use Rattle.sheet.specs.Contents.{Contents, written}
 use Rattle.sheet.specs.Sheet.{StandsFor}
 
 -- The record of a row, whatever it holds.

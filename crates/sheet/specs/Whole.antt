@@ -1,14 +1,15 @@
 -- What holds of every loaded sheet: the facts by which its users index its tables without a test.
 use Rattle.std.specs.Prelude.{◌≡◌, ℕ, ◌<◌, ◌≤◌, List, length}
-use Rattle.std.specs.List.{AllWithin, AllByRecursion}
+use Rattle.std.specs.List.{AllWithin, All}
 use Rattle.tables.specs.declared.Automaton.{Automaton}
 use Rattle.tables.specs.declared.Sizes.{Sizes}
-use Rattle.sheet.specs.declared.records.Value.{Value}
-use Rattle.sheet.specs.declared.records.Transition.{Transition}
-use Rattle.sheet.specs.declared.records.Action.{Action}
+use Rattle.tables.specs.declared.Value.{Value}
+use Rattle.tables.specs.declared.Transition.{Transition}
+use Rattle.tables.specs.declared.Action.{Action}
 use Rattle.tables.specs.Load.{part}
 use Rattle.tables.specs.Allowed.{ValueAllowed, AutomatonAllowed, TransitionAllowed, GuardAllowed, ActionAllowed, NodeAllowed, CountsAllowed, EachOnce}
-use Rattle.sheet.specs.Contents.{Contents, sizes, value_row, transition_row, action_row}
+use Rattle.tables.specs.Records.{value_row, transition_row, action_row}
+use Rattle.sheet.specs.Contents.{Contents, sizes}
 
 -- a local's owner is an automaton
 abbrev pub ValueWhole : Sizes → Value → Type 0
@@ -29,17 +30,17 @@ Between states t = (t.source < states) × (t.destination < states)
 pub record AutomatonWhole (c : Contents) (a : Automaton) : Type 0 where
   pub allowed : AutomatonAllowed (sizes c) a
   pub initial : a.initial < a.states
-  pub listed : AllByRecursion (Between a.states) (part a.transitions c.transitions)
+  pub listed : All (Between a.states) (part a.transitions c.transitions)
 
 pub record Whole (c : Contents) : Type 0 where
   pub counts : CountsAllowed (sizes c)
-  pub values : AllByRecursion (ValueWhole (sizes c)) c.values
-  pub automata : AllByRecursion (AutomatonWhole c) c.automata
+  pub values : All (ValueWhole (sizes c)) c.values
+  pub automata : All (AutomatonWhole c) c.automata
   pub turns : EachOnce (length c.automata) c.turns
-  pub transitions : AllByRecursion (TransitionWhole (sizes c)) c.transitions
-  pub guards : AllByRecursion (GuardAllowed (sizes c)) c.guards
-  pub actions : AllByRecursion (ActionWhole (sizes c)) c.actions
-  pub nodes : AllByRecursion (NodeAllowed (sizes c)) c.nodes
+  pub transitions : All (TransitionWhole (sizes c)) c.transitions
+  pub guards : All (GuardAllowed (sizes c)) c.guards
+  pub actions : All (ActionWhole (sizes c)) c.actions
+  pub nodes : All (NodeAllowed (sizes c)) c.nodes
 
 -- r is the whole table: at most so many records, of each of which P holds
 pub record Handed {X : Type 0} (P : X → Type 0) (most : ℕ) (table r : List X) : Type 0 where

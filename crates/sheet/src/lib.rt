@@ -5,4 +5,4 @@ mod loaded;
 mod records;
 
 pub use loaded::Sheet;
-pub use records::{Action, EventKind, Transition, Value, ValueKind};
+pub use tables::{Action, EventKind, Transition, Value, ValueKind};

@@ -6,8 +6,7 @@ ghost use Rattle.tables.specs.Load.{accepts};
 mod access;
 mod load;
 
-use crate::records::{Action, EventKind, Transition, Value};
-use tables::{Automaton, Guard, Node};
+use tables::{Action, Automaton, EventKind, Guard, Node, Transition, Value};
 
 // A sheet is the tables of one shift logic. It holds only tables that have passed the judgement of `load`,
 // so every number in it lies inside its table, every listed transition goes between states of its automaton,

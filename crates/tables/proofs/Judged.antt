@@ -1,7 +1,7 @@
 -- The judgement is fine exactly on the allowed tables.
-use Rattle.std.proofs.Common.{◌≡◌, ℕ, ◌≤◌, Bool, true, ◌&&◌, ltb, leb, List, length, is_ok, Ok, Err, Decides, sym, refl, ap, arith}
-use Rattle.std.specs.List.{AllByRecursion}
-use Rattle.std.proofs.ByRecursion.{All-weaker}
+use Rattle.std.proofs.Common.{◌≡◌, ℕ, ◌≤◌, Bool, true, ◌&&◌, ltb, leb, List, length, is_ok, Ok, Err, Decides, refl, ap, arith}
+use Rattle.std.specs.List.{All}
+use Rattle.std.proofs.lemmas.List.Elements.{All-weaker}
 use Rattle.std.proofs.lemmas.Bool.{and_parts}
 use Rattle.std.proofs.lemmas.Bool.Decides.{nat_tests, Decides-ltb}
 use Rattle.tables.specs.declared.rows.Automaton.{Automaton}
@@ -10,8 +10,8 @@ use Rattle.tables.specs.declared.rows.Sizes.{Sizes}
 use Rattle.tables.specs.declared.refusal.Table.TheVariants.{Values, Events, Automata, Transitions, Guards, Actions, Nodes}
 use Rattle.tables.specs.declared.refusal.LoadRefusal.TheVariants.{TooMany, NoInitialState, NoListedState, Turns}
 use Rattle.tables.specs.Tables.{Lent, sizes}
-use Rattle.tables.specs.Load.{Verdict, counts, records, listed_verdict, states_verdict, part, all_below, each_once, judged, accepts, value_limits, value_inside, event_limits, event_inside, automaton_limits, automaton_inside, transition_limits, transition_inside, guard_limits, guard_inside, action_limits, action_inside, node_limits, node_inside}
-use Rattle.tables.specs.Allowed.{Allowed, EndsIn, CountsAllowed, GoesWithin, StatesExist, ValueAllowed, EventAllowed, AutomatonAllowed, TransitionAllowed, GuardAllowed, ActionAllowed, NodeAllowed}
+use Rattle.tables.specs.Load.{Verdict, counts, listed_verdict, states_verdict, part, all_below, each_once, judged, accepts, value_limits, value_inside, event_limits, event_inside, automaton_limits, automaton_inside, transition_limits, transition_inside, guard_limits, guard_inside, action_limits, action_inside, node_limits, node_inside}
+use Rattle.tables.specs.Allowed.{Allowed, CountsAllowed, GoesWithin, StatesExist, ValueAllowed, EventAllowed, AutomatonAllowed, TransitionAllowed, GuardAllowed, ActionAllowed, NodeAllowed}
 use Rattle.tables.specs.Exact.{Exactly}
 use Rattle.tables.proofs.Decide.{value_decides, event_decides, automaton_decides, transition_decides, guard_decides, action_decides, node_decides, goes_decides}
 use Rattle.tables.proofs.Exact.{then_exactly, unless_exactly, each_exactly, records_exactly, exactly_like}
@@ -32,12 +32,6 @@ counts_exactly n =
     (then_exactly _ _ (unless_exactly (leb n.guards 1024) (TooMany Guards) (decides_leb n.guards 1024))
     (then_exactly _ _ (unless_exactly (leb n.actions 1024) (TooMany Actions) (decides_leb n.actions 1024))
     (unless_exactly (leb n.nodes 8192) (TooMany Nodes) (decides_leb n.nodes 8192))))))))
-
--- automata that passed their judgement list transitions of the table
-pub automata_list : (n : Sizes) (xs : List Automaton) → Ok tt ≡ records Automata automaton_limits (automaton_inside n) xs → AllByRecursion (λ a. EndsIn n.transitions a.transitions) xs
-automata_list n xs e =
-    All-weaker (AutomatonAllowed n) (λ a. EndsIn n.transitions a.transitions) (λ a h. h.transitions) xs
-    ((records_exactly Automata automaton_limits (automaton_inside n) (AutomatonAllowed n) (automaton_decides n) xs).0 (sym e))
 
 states_exactly : (ts : List TransitionRow) (k : ℕ) (a : Automaton) → Exactly (states_verdict ts k a) (StatesExist ts a)
 states_exactly ts k a =
@@ -76,20 +70,20 @@ judged_exactly t =
     (unless_exactly (all_below (length t.automata) t.turns && each_once (length t.automata) t.turns) Turns (turns_decides (length t.automata) t.turns)))))))))))
 
 -- records that are allowed keep their limits
-limited : {X : Type 0} (limits inside : X → Bool) (P : X → Type 0) → ((x : X) → Decides (limits x && inside x) (P x)) → (xs : List X) → AllByRecursion P xs → AllByRecursion (λ x. limits x ≡ true) xs
+limited : {X : Type 0} (limits inside : X → Bool) (P : X → Type 0) → ((x : X) → Decides (limits x && inside x) (P x)) → (xs : List X) → All P xs → All (λ x. limits x ≡ true) xs
 limited limits inside P d xs h = All-weaker P (λ x. limits x ≡ true) (λ x p. (and_parts (limits x) (inside x) ((d x).1 p)).0) xs h
 
 module _ (t : Lent) (allowed : Allowed t) where
-  pub values_limited : AllByRecursion (λ x. value_limits x ≡ true) t.values
+  pub values_limited : All (λ x. value_limits x ≡ true) t.values
   values_limited = limited value_limits (value_inside (sizes t)) (ValueAllowed (sizes t)) (value_decides (sizes t)) t.values allowed.values
 
-  pub events_limited : AllByRecursion (λ x. event_limits x ≡ true) t.events
+  pub events_limited : All (λ x. event_limits x ≡ true) t.events
   events_limited = limited event_limits (event_inside (sizes t)) EventAllowed (event_decides (sizes t)) t.events allowed.events
 
-  pub transitions_limited : AllByRecursion (λ x. transition_limits x ≡ true) t.transitions
+  pub transitions_limited : All (λ x. transition_limits x ≡ true) t.transitions
   transitions_limited = limited transition_limits (transition_inside (sizes t)) (TransitionAllowed (sizes t)) (transition_decides (sizes t)) t.transitions allowed.transitions
 
-  pub actions_limited : AllByRecursion (λ x. action_limits x ≡ true) t.actions
+  pub actions_limited : All (λ x. action_limits x ≡ true) t.actions
   actions_limited = limited action_limits (action_inside (sizes t)) (ActionAllowed (sizes t)) (action_decides (sizes t)) t.actions allowed.actions
 
 -- acceptance as a test

@@ -1,5 +1,4 @@
 mod Each
-mod Zero
 pub mod Decide
 mod Exact
 mod Turns

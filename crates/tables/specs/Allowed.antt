@@ -1,6 +1,6 @@
 -- Which tables are allowed, said directly: limits, indices and stretches of each record, states, turns.
 use Rattle.std.specs.Prelude.{◌≡◌, ℕ, zero, suc, ◌+◌, ◌<◌, ◌≤◌, List, length, ℤ, pos, negsuc}
-use Rattle.std.specs.List.{AllByRecursion}
+use Rattle.std.specs.List.{All}
 use Rattle.tables.specs.declared.rows.Stretch.{Stretch}
 use Rattle.tables.specs.declared.rows.ValueRow.{ValueRow}
 use Rattle.tables.specs.declared.rows.EventRow.{EventRow}
@@ -79,11 +79,11 @@ GoesWithin states t = (t.source < states) × (t.destination < states)
 -- an automaton has its initial state and the states of the transitions that it lists
 pub record StatesExist (ts : List TransitionRow) (a : Automaton) : Type 0 where
   pub initial : a.initial < a.states
-  pub listed : AllByRecursion (GoesWithin a.states) (part a.transitions ts)
+  pub listed : All (GoesWithin a.states) (part a.transitions ts)
 
 -- each of n automata stands in the list once, and nothing else
 pub record EachOnce (n : ℕ) (turns : List ℕ) : Type 0 where
-  pub known : AllByRecursion (λ a. a < n) turns
+  pub known : All (λ a. a < n) turns
   pub once : (a : ℕ) → a < n → times a turns ≡ 1
 
 pub record CountsAllowed (n : Sizes) : Type 0 where
@@ -97,12 +97,12 @@ pub record CountsAllowed (n : Sizes) : Type 0 where
 
 pub record Allowed (t : Lent) : Type 0 where
   pub counts : CountsAllowed (sizes t)
-  pub values : AllByRecursion (ValueAllowed (sizes t)) t.values
-  pub events : AllByRecursion EventAllowed t.events
-  pub automata : AllByRecursion (AutomatonAllowed (sizes t)) t.automata
-  pub transitions : AllByRecursion (TransitionAllowed (sizes t)) t.transitions
-  pub guards : AllByRecursion (GuardAllowed (sizes t)) t.guards
-  pub actions : AllByRecursion (ActionAllowed (sizes t)) t.actions
-  pub nodes : AllByRecursion (NodeAllowed (sizes t)) t.nodes
-  pub states : AllByRecursion (StatesExist t.transitions) t.automata
+  pub values : All (ValueAllowed (sizes t)) t.values
+  pub events : All EventAllowed t.events
+  pub automata : All (AutomatonAllowed (sizes t)) t.automata
+  pub transitions : All (TransitionAllowed (sizes t)) t.transitions
+  pub guards : All (GuardAllowed (sizes t)) t.guards
+  pub actions : All (ActionAllowed (sizes t)) t.actions
+  pub nodes : All (NodeAllowed (sizes t)) t.nodes
+  pub states : All (StatesExist t.transitions) t.automata
   pub turns : EachOnce (length t.automata) t.turns

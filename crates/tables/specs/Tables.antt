@@ -42,3 +42,28 @@ sizes t = record {
   actions = length t.actions;
   nodes = length t.nodes;
 }
+
+-- the tables with other records of one kind, or another turn list
+abbrev pub with_values : List ValueRow → Lent → Lent
+with_values rows t = record t { values = rows }
+
+abbrev pub with_events : List EventRow → Lent → Lent
+with_events rows t = record t { events = rows }
+
+abbrev pub with_automata : List Automaton → Lent → Lent
+with_automata rows t = record t { automata = rows }
+
+abbrev pub with_transitions : List TransitionRow → Lent → Lent
+with_transitions rows t = record t { transitions = rows }
+
+abbrev pub with_guards : List Guard → Lent → Lent
+with_guards rows t = record t { guards = rows }
+
+abbrev pub with_actions : List ActionRow → Lent → Lent
+with_actions rows t = record t { actions = rows }
+
+abbrev pub with_nodes : List Node → Lent → Lent
+with_nodes rows t = record t { nodes = rows }
+
+abbrev pub with_turns : List ℕ → Lent → Lent
+with_turns turns t = record t { turns = turns }

@@ -1,12 +1,12 @@
 // The judgement on lent tables, in its order: the first fault decides.
-ghost use Rattle.std.specs.Prelude.{◌≡◌, ◌+◌, ◌^◌, ◌<◌, ◌≤◌, false, length, replicate, Decides, MatchBool, nat_le};
-ghost use Rattle.std.specs.List.{AllByRecursion};
+ghost use Rattle.std.specs.Prelude.{◌≡◌, ℕ, ◌+◌, ◌^◌, ◌<◌, ◌≤◌, ◌↔◌, false, length, replicate, IsTrue, MatchBool, nat_le};
 ghost use Rattle.tables.specs.declared.refusal.LoadRefusal.TheVariants.{TooMany};
 ghost use Rattle.tables.specs.Tables.{lent};
-ghost use Rattle.tables.specs.Allowed.{Allowed, EndsIn, EachOnce};
+ghost use Rattle.tables.specs.Allowed.{Allowed, EachOnce};
+ghost use Rattle.tables.specs.Each.{Follows};
 ghost use Rattle.tables.specs.Noted.{Noted};
 ghost use Rattle.tables.specs.Exact.{Exactly};
-ghost use Rattle.tables.specs.Load.{unless, records, record_verdict, counts, listed_verdict, states_verdict, each, turns_verdict, judged};
+ghost use Rattle.tables.specs.Load.{Verdict, unless, records, record_verdict, counts, listed_verdict, states_verdict, each, turns_verdict, judged};
 
 use crate::limits::{
     MOST_ACTIONS, MOST_AUTOMATA, MOST_EVENTS, MOST_GUARDS, MOST_NODES, MOST_TRANSITIONS,
@@ -43,34 +43,53 @@ fn judge_counts(sizes: &Sizes) -> Result<(), LoadRefusal>
 fn judge_record<R: Row>(
     table: Table,
     row: usize,
-    record: &R,
+    record: R,
     sizes: &Sizes,
 ) -> Result<(), LoadRefusal>
-    ensures { result ≡ record_verdict table (R.Row.limited «record».now) (R.Row.inside sizes.now «record».now) row }
+    ensures { result ≡ record_verdict table (R.Row.limited «record») (R.Row.inside sizes.now «record») row }
 {
-    require(record.within_limits(), LoadRefusal::Limit { table, row })?;
+    let typed = record
+        .typed()
+        .map_err(|_| LoadRefusal::Limit { table, row })?;
     require(
-        record.inside_tables(sizes),
+        R::lies_inside(typed, sizes),
         LoadRefusal::Outside { table, row },
     )
+}
+
+// Judges each item with its number, counted from `first`; the first refusal decides.
+fn judge_each<T: Copy, F: Fn(usize, T) -> Result<(), LoadRefusal>>(
+    first: usize,
+    items: &[T],
+    judge: F,
+) -> Result<(), LoadRefusal>
+    requires callable { F.IsAlwaysCallable judge }
+    requires numbers { first + length items.now < 2 ^ 64 }
+    ensures { (f : ℕ → T → Verdict) → Follows F.Fn judge f → result ≡ each f first items.now }
+{
+    for (k, item) in items.iter().enumerate() {
+        judge(first + k, *item)?;
+    }
+    Ok(())
 }
 
 fn judge_records<R: Row>(table: Table, rows: &[R], sizes: &Sizes) -> Result<(), LoadRefusal>
     ensures { result ≡ records table R.Row.limited (R.Row.inside sizes.now) rows.now }
 {
-    for (row, record) in rows.iter().enumerate() {
-        judge_record(table, row, record, sizes)?;
-    }
-    Ok(())
+    judge_each(
+        0,
+        rows,
+        |row, record| judge_record(table, row, record, sizes),
+    )
 }
 
 fn judge_transition(
     automaton: usize,
     states: u16,
     transition: usize,
-    row: &TransitionRow,
+    row: TransitionRow,
 ) -> Result<(), LoadRefusal>
-    ensures { result ≡ listed_verdict automaton states transition row.now }
+    ensures { result ≡ listed_verdict automaton states transition row }
 {
     let exist = row.source < states && row.destination < states;
     require(
@@ -82,60 +101,43 @@ fn judge_transition(
     )
 }
 
-// The transitions that an automaton lists, which begin at the number `first`.
-fn judge_listed(
-    automaton: usize,
-    states: u16,
-    first: usize,
-    listed: &[TransitionRow],
-) -> Result<(), LoadRefusal>
-    requires { first + length listed.now < 2 ^ 64 }
-    ensures { result ≡ each (listed_verdict automaton states) first listed.now }
-{
-    for (k, row) in listed.iter().enumerate() {
-        judge_transition(automaton, states, first + k, row)?;
-    }
-    Ok(())
-}
-
 // The initial state of an automaton, then the states of the transitions that it lists.
 fn judge_states(
     number: usize,
-    automaton: &Automaton,
+    automaton: Automaton,
     transitions: &[TransitionRow],
 ) -> Result<(), LoadRefusal>
-    requires { EndsIn (length transitions.now) automaton.now.transitions }
-    ensures { result ≡ states_verdict transitions.now number automaton.now }
+    ensures { result ≡ states_verdict transitions.now number automaton }
 {
     let states = automaton.states;
     require(
         automaton.initial < states,
         LoadRefusal::NoInitialState { automaton: number },
     )?;
-    let first = automaton.transitions.first as usize;
-    let end = first + automaton.transitions.count as usize;
-    judge_listed(number, states, first, &transitions[first..end])
+    let stretch = automaton.transitions;
+    judge_each(
+        usize::from(stretch.first),
+        stretch.part(transitions),
+        |transition, row| judge_transition(number, states, transition, row),
+    )
 }
 
 fn judge_automata(automata: &[Automaton], transitions: &[TransitionRow]) -> Result<(), LoadRefusal>
-    requires { AllByRecursion (λ a. EndsIn (length transitions.now) a.transitions) automata.now }
     ensures { result ≡ each (states_verdict transitions.now) 0 automata.now }
 {
-    for (number, automaton) in automata.iter().enumerate() {
-        judge_states(number, automaton, transitions)?;
-    }
-    Ok(())
+    judge_each(0, automata, |number, automaton| {
+        judge_states(number, automaton, transitions)
+    })
 }
 
-// Notes which automata have had a turn; false at a turn of no automaton or of one that has had it.
-fn note_turns(turns: &[u16], automata: usize, seen: &mut [bool; MOST_AUTOMATA]) -> bool
-    requires few { automata ≤ 32 }
-    requires none_seen { seen.old ≡ replicate 32 false }
-    ensures { MatchBool result (Noted automata turns.now seen.new) (EachOnce automata turns.now → ⊥) }
+// Notes which automata have had a turn, a flag for each; false at a turn of no automaton or of one that has had it.
+fn note_turns(turns: &[u16], seen: &mut [bool]) -> bool
+    requires none_seen { seen.old ≡ replicate (length seen.old) false }
+    ensures { MatchBool result (Noted (length seen.old) turns.now seen.new) (EachOnce (length seen.old) turns.now → ⊥) }
 {
     for turn in turns {
-        let a = *turn as usize;
-        if a >= automata || seen[a] {
+        let a = usize::from(*turn);
+        if a >= seen.len() || seen[a] {
             return false;
         }
         seen[a] = true;
@@ -145,18 +147,11 @@ fn note_turns(turns: &[u16], automata: usize, seen: &mut [bool; MOST_AUTOMATA]) 
 
 fn each_once(turns: &[u16], automata: usize) -> bool
     requires { automata ≤ 32 }
-    ensures { Decides result (EachOnce automata turns.now) }
+    ensures { IsTrue result ↔ EachOnce automata turns.now }
 {
-    let mut seen = [false; MOST_AUTOMATA];
-    if !note_turns(turns, automata, &mut seen) {
-        return false;
-    }
-    for a in 0..automata {
-        if !seen[a] {
-            return false;
-        }
-    }
-    true
+    let mut flags = [false; MOST_AUTOMATA];
+    let seen = &mut flags[..automata];
+    note_turns(turns, seen) && seen.iter().all(|had| *had)
 }
 
 fn judge_turns(turns: &[u16], automata: usize) -> Result<(), LoadRefusal>

@@ -4,6 +4,7 @@ ghost use Rattle.tables.specs.declared.refusal.LoadRefusal.TheVariants.{Memory};
 ghost use Rattle.tables.specs.Answers.{refusal};
 
 use std::alloc::AllocError;
+use std::error::Error;
 use std::fmt;
 
 // The tables that have limits, in the order in which they are judged.
@@ -108,3 +109,5 @@ impl fmt::Display for LoadRefusal {
         }
     }
 }
+
+impl Error for LoadRefusal {}

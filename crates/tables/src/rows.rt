@@ -4,7 +4,7 @@ ghost use Rattle.std.specs.Prelude.{◌≡◌};
 ghost use Rattle.tables.specs.Tables.{lent, sizes as sizes_of};
 
 // A stretch of a table: `count` records from number `first` on.
-#[derive(Clone, Copy)]
+#[derive(Clone, Copy, PartialEq, Eq, Debug)]
 pub struct Stretch {
     pub first: u16,
     pub count: u16,
@@ -13,7 +13,7 @@ pub struct Stretch {
 // A value that the shift logic reads or assigns. Kind is 0 input, 1 output, 2 shared, 3 local.
 // The owner is the automaton of a local and 0 for every other kind.
 // The expression language in use makes the type from `a` and `b`.
-#[derive(Clone, Copy)]
+#[derive(Clone, Copy, PartialEq, Eq, Debug)]
 pub struct ValueRow {
     pub kind: u16,
     pub owner: u16,
@@ -22,14 +22,14 @@ pub struct ValueRow {
 }
 
 // An event. Kind is 0 input, 1 output, 2 shared.
-#[derive(Clone, Copy)]
+#[derive(Clone, Copy, PartialEq, Eq, Debug)]
 pub struct EventRow {
     pub kind: u16,
 }
 
 // An automaton with `states` states: its initial state, its initial actions and its transitions.
 // It is the same record in a loaded sheet.
-#[derive(Clone, Copy)]
+#[derive(Clone, Copy, PartialEq, Eq, Debug)]
 pub struct Automaton {
     pub states: u16,
     pub initial: u16,
@@ -38,7 +38,7 @@ pub struct Automaton {
 }
 
 // A transition from state `source` to state `destination` on the event `trigger`. Urgent is 1 or 0.
-#[derive(Clone, Copy)]
+#[derive(Clone, Copy, PartialEq, Eq, Debug)]
 pub struct TransitionRow {
     pub source: u16,
     pub destination: u16,
@@ -49,14 +49,14 @@ pub struct TransitionRow {
 }
 
 // A guard: the nodes of its expression. It is the same record in a loaded sheet.
-#[derive(Clone, Copy)]
+#[derive(Clone, Copy, PartialEq, Eq, Debug)]
 pub struct Guard {
     pub nodes: Stretch,
 }
 
 // An action. Kind 0 emits event `target` and has the empty stretch at 0;
 // kind 1 assigns to value `target` what the expression gives.
-#[derive(Clone, Copy)]
+#[derive(Clone, Copy, PartialEq, Eq, Debug)]
 pub struct ActionRow {
     pub kind: u16,
     pub target: u16,
@@ -65,7 +65,7 @@ pub struct ActionRow {
 
 // A node of an expression in prefix order. Code 0 reads the value that the argument names;
 // what every other code means is up to the expression language. It is the same record in a loaded sheet.
-#[derive(Clone, Copy)]
+#[derive(Clone, Copy, PartialEq, Eq, Debug)]
 pub struct Node {
     pub code: u8,
     pub argument: i32,
@@ -86,7 +86,7 @@ pub struct Tables<'a> {
 }
 
 // How many records each table has.
-#[derive(Clone, Copy)]
+#[derive(Clone, Copy, PartialEq, Eq, Debug)]
 pub struct Sizes {
     pub values: usize,
     pub events: usize,

@@ -6,8 +6,7 @@ ghost use Rattle.sheet.specs.Sheet.{contents};
 ghost use Rattle.sheet.specs.Whole.{Handed, HandedTurns, ValueWhole, AutomatonWhole, TransitionWhole, ActionWhole};
 
 use crate::loaded::Sheet;
-use crate::records::{Action, EventKind, Transition, Value};
-use tables::{Automaton, Guard, Node};
+use tables::{Action, Automaton, EventKind, Guard, Node, Transition, Value};
 
 impl Sheet {
     pub fn values(&self) -> &[Value]
