@@ -6,10 +6,10 @@ use Rattle.tables.specs.Load.{Verdict, ◌then◌, each}
 
 -- what is left, from the element i on with the number n, gives the total
 module _ {X : Type 0} (f : ℕ → X → Verdict) (xs : List X) (i n : ℕ) (total : Verdict) (inv : each f n (drop i xs) ≡ total) where
-  -- the next element, as the code read it: at a default of its own
-  module _ (x d : X) (is : x ≡ get_or xs i d) (within : i < length xs) where
+  -- the next element
+  module _ (x : X) (is : x ≡ get_or xs i x) (within : i < length xs) where
     split : (f n x then each f (n + 1) (drop (i + 1) xs)) ≡ total
-    split = rw (add-one n, add-one i) (rw (drop-cons xs i d within, ← is) at inv)
+    split = rw (add-one n, add-one i) (rw (drop-cons xs i x within, ← is) at inv)
 
     pub each_again : Ok tt ≡ f n x → each f (n + 1) (drop (i + 1) xs) ≡ total
     each_again e = rw (← e) at split

@@ -1,5 +1,5 @@
 -- What load answers on any tables: judged in order, the first fault decides.
-use Rattle.std.specs.Prelude.{ℕ, zero, suc, ◌+◌, Bool, true, false, cond, not, ◌&&◌, ◌||◌, List, [], ◌∷◌, length, take, drop, ℤ, pos, negsuc, is_ok, Ok, Err, Result, ◌==◌, nat_le, nat_lt}
+use Rattle.std.specs.Prelude.{ℕ, zero, suc, ◌+◌, Bool, true, false, if◌then◌else◌, not, ◌&&◌, ◌||◌, List, [], ◌∷◌, length, take, drop, ℤ, pos, negsuc, is_ok, Ok, Err, Result, ◌==◌, nat_le, nat_lt}
 use Rattle.tables.specs.declared.rows.Stretch.{Stretch}
 use Rattle.tables.specs.declared.rows.ValueRow.{ValueRow}
 use Rattle.tables.specs.declared.rows.EventRow.{EventRow}
@@ -80,10 +80,10 @@ abbrev pub guard_inside : Sizes → Guard → Bool
 guard_inside n r = ends_in r.nodes n.nodes
 
 abbrev pub action_limits : ActionRow → Bool
-action_limits r = cond (r.kind == 0) (r.nodes.first == 0 && r.nodes.count == 0) (r.kind == 1 && expression r.nodes)
+action_limits r = if r.kind == 0 then r.nodes.first == 0 && r.nodes.count == 0 else (r.kind == 1 && expression r.nodes)
 
 abbrev pub action_inside : Sizes → ActionRow → Bool
-action_inside n r = cond (r.kind == 0) (nat_lt r.target n.events) (nat_lt r.target n.values && ends_in r.nodes n.nodes)
+action_inside n r = if r.kind == 0 then nat_lt r.target n.events else (nat_lt r.target n.values && ends_in r.nodes n.nodes)
 
 abbrev pub node_limits : Node → Bool
 node_limits r = true
@@ -124,7 +124,7 @@ states_verdict ts a r =
 -- how often a number stands in a list
 abbrev pub times : ℕ → List ℕ → ℕ
 times a [] = 0
-times a (x ∷ xs) = cond (a == x) 1 0 + times a xs
+times a (x ∷ xs) = (if a == x then 1 else 0) + times a xs
 
 abbrev pub all_below : ℕ → List ℕ → Bool
 all_below n [] = true
