@@ -1,9 +1,9 @@
 -- What a guest means: the answer to every question, fixed by what is asked alone.
-use Rattle.std.specs.Prelude.{◌≡◌, Bool, true, List, [], ◌∷◌, ℤ, Option, Result}
+use Rattle.std.specs.Prelude.{◌≡◌, Bool, true, List, [], ◌∷◌, ℤ, Ok, Err, Option, Result}
 use Rattle.tables.specs.declared.Node.{Node}
 use Rattle.guest.specs.declared.answers.Reason.{Reason}
-use Rattle.guest.specs.declared.answers.Narrowing.{Narrowing}
-use Rattle.guest.specs.declared.answers.Narrowing.TheVariants.{Narrowed, NoGuard, Never}
+use Rattle.guest.specs.declared.answers.NarrowRefusal.{NarrowRefusal}
+use Rattle.guest.specs.declared.answers.NarrowRefusal.TheVariants.{NoGuard, Never}
 
 -- what a guard makes of a row of types: the row after a yes, or none, because it is no guard or because it is never yes
 pub data Cut (Ty : Type 0) : Type 0 where
@@ -11,10 +11,10 @@ pub data Cut (Ty : Type 0) : Type 0 where
   no_guard : Cut Ty
   never : Cut Ty
 
-abbrev pub told : {Ty : Type 0} → Cut Ty → Narrowing
-told (narrowed types) = Narrowed
-told no_guard = NoGuard
-told never = Never
+abbrev pub told : {Ty : Type 0} → Cut Ty → Result (Unit {0}) NarrowRefusal
+told (narrowed types) = Ok tt
+told no_guard = Err NoGuard
+told never = Err Never
 
 abbrev pub left : {Ty : Type 0} → Cut Ty → List Ty → List Ty
 left (narrowed after) types = after
@@ -22,7 +22,7 @@ left no_guard types = types
 left never types = types
 
 -- the narrowing call, lent this row, gives this answer and leaves that row
-pub record Leaves {Ty : Type 0} (cut : Cut Ty) (types : List Ty) (answer : Narrowing) (after : List Ty) : Type 0 where
+pub record Leaves {Ty : Type 0} (cut : Cut Ty) (types : List Ty) (answer : Result (Unit {0}) NarrowRefusal) (after : List Ty) : Type 0 where
   pub answers : answer ≡ told cut
   pub leaves : after ≡ left cut types
 

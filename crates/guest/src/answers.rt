@@ -11,13 +11,11 @@ pub enum Reason {
     OutsideWord,
 }
 
-// What the narrowing of a row of types by a guard came to.
+// Why a guard does not narrow a row of types. The row is then as it was.
 #[derive(Clone, Copy, PartialEq, Eq, Debug)]
-pub enum Narrowing {
-    // The row now has the types after a yes. They may all be as they were.
-    Narrowed,
-    // The nodes are no guard under these types. The row is as it was.
+pub enum NarrowRefusal {
+    // The nodes are no guard under these types.
     NoGuard,
-    // The guard is never yes under these types. The row is as it was.
+    // The guard is never yes under these types.
     Never,
 }

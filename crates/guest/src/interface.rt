@@ -3,7 +3,7 @@ ghost use Rattle.std.specs.Prelude.{◌≡◌};
 ghost use Rattle.guest.specs.Meaning.{Meaning, Leaves};
 ghost use Rattle.guest.specs.Laws.{Laws};
 
-use crate::answers::{Narrowing, Reason};
+use crate::answers::{NarrowRefusal, Reason};
 use tables::Node;
 
 pub trait Guest {
@@ -49,7 +49,7 @@ pub trait Guest {
     fn verdict(nodes: &[Node], row: &[Self::Value]) -> Result<bool, Reason>
         ensures { result ≡ meaning.verdict nodes.now row.now };
 
-    // Narrows a row of types, element by element, to what is left after the guard's yes.
-    fn narrow(nodes: &[Node], types: &mut [Self::Type]) -> Narrowing
+    // Narrows a row of types, element by element, to what is left after the guard's yes. That may be all of every type.
+    fn narrow(nodes: &[Node], types: &mut [Self::Type]) -> Result<(), NarrowRefusal>
         ensures { Leaves (meaning.narrow nodes.now types.old) types.old result types.new };
 }

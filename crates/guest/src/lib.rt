@@ -8,5 +8,6 @@ mod interface;
 mod number;
 mod words;
 
-pub use answers::{Narrowing, Reason};
+pub use answers::{NarrowRefusal, Reason};
 pub use interface::Guest;
+pub use number::narrowing_number;

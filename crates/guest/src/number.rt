@@ -1,8 +1,8 @@
 // Answers by their numbers.
 ghost use Rattle.std.specs.Prelude.{◌≡◌};
-ghost use Rattle.guest.specs.Answers.{reason_number, narrowing_number};
+ghost use Rattle.guest.specs.Answers.{reason_number, narrow_refusal_number, narrowing_number};
 
-use crate::answers::{Narrowing, Reason};
+use crate::answers::{NarrowRefusal, Reason};
 
 impl Reason {
     // The number by which bench staff know the reason.
@@ -17,15 +17,24 @@ impl Reason {
     }
 }
 
-impl Narrowing {
-    // The refusal that a sheet with such a guard meets, or 0.
+impl NarrowRefusal {
+    // The refusal that a sheet with such a guard meets.
     pub fn number(self) -> u8
-        ensures { result ≡ narrowing_number self }
+        ensures { result ≡ narrow_refusal_number self }
     {
         match self {
-            Narrowing::Narrowed => 0,
-            Narrowing::NoGuard => 7,
-            Narrowing::Never => 9,
+            NarrowRefusal::NoGuard => 7,
+            NarrowRefusal::Never => 9,
         }
+    }
+}
+
+// The refusal that a sheet meets by this answer of the narrowing call, or 0.
+pub fn narrowing_number(answer: Result<(), NarrowRefusal>) -> u8
+    ensures { result ≡ narrowing_number answer }
+{
+    match answer {
+        Ok(()) => 0,
+        Err(refusal) => refusal.number(),
     }
 }

@@ -1,5 +1,6 @@
-// Reasons in words.
-use crate::answers::Reason;
+// Reasons and refusals in words.
+use crate::answers::{NarrowRefusal, Reason};
+use std::error::Error;
 use std::fmt;
 
 impl fmt::Display for Reason {
@@ -12,3 +13,17 @@ impl fmt::Display for Reason {
         f.write_str(words)
     }
 }
+
+impl Error for Reason {}
+
+impl fmt::Display for NarrowRefusal {
+    fn fmt<W: fmt::Write>(&self, f: &mut fmt::Formatter<W>) -> fmt::Result {
+        let words = match self {
+            NarrowRefusal::NoGuard => "no guard",
+            NarrowRefusal::Never => "never yes",
+        };
+        f.write_str(words)
+    }
+}
+
+impl Error for NarrowRefusal {}
