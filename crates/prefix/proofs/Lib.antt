@@ -1,6 +1,5 @@
 mod Steps
 mod Whole
-mod Cuts
 pub mod Related
 pub mod Alike
 pub mod ThreeNodes

@@ -7,7 +7,7 @@ ghost use Rattle.prefix.specs.Language.{cut_by, cut_place};
 
 use crate::comparison::Comparison;
 use crate::grammar::Order;
-use guest::Narrowing;
+use guest::NarrowRefusal;
 
 pub trait Trim {
     type Type: Copy;
@@ -20,28 +20,24 @@ pub trait Trim {
 }
 
 // Narrows the type at the place that a comparison reads.
-fn narrow_place<T: Trim>(comparison: Comparison, types: &mut [T::Type]) -> Narrowing
+fn narrow_place<T: Trim>(comparison: Comparison, types: &mut [T::Type]) -> Result<(), NarrowRefusal>
     ensures { Leaves (cut_place T.Trim.trimmed types.old comparison (slice_get types.old comparison.place)) types.old result types.new }
 {
     let place = comparison.place;
-    if place >= types.len() {
-        return Narrowing::NoGuard;
-    }
-    match T::trim(comparison.order, comparison.constant, types[place]) {
-        Some(trimmed) => {
-            types[place] = trimmed;
-            Narrowing::Narrowed
-        }
-        None => Narrowing::Never,
-    }
+    let of = *types.get(place).ok_or(NarrowRefusal::NoGuard)?;
+    types[place] = T::trim(comparison.order, comparison.constant, of).ok_or(NarrowRefusal::Never)?;
+    Ok(())
 }
 
 // Narrows a row of types by a comparison; where there is none, nothing changes.
-pub fn narrow_by<T: Trim>(comparison: Option<Comparison>, types: &mut [T::Type]) -> Narrowing
+pub fn narrow_by<T: Trim>(
+    comparison: Option<Comparison>,
+    types: &mut [T::Type],
+) -> Result<(), NarrowRefusal>
     ensures { Leaves (cut_by T.Trim.trimmed types.old comparison) types.old result types.new }
 {
     match comparison {
         Some(found) => narrow_place::<T>(found, types),
-        None => Narrowing::Narrowed,
+        None => Ok(()),
     }
 }
