@@ -1,5 +1,5 @@
 -- What a guard of exactly three nodes, comparison, read, constant, gives and reads.
-use Rattle.std.proofs.Common.{◌≡◌, ℕ, true, ltb, List, [], ◌∷◌, length, get_or, ℤ, is_some, Some, None, Option, sym, refl, ap, ◌∙◌, arith}
+use Rattle.std.proofs.Common.{◌≡◌, ℕ, true, ltb, List, [], ◌∷◌, length, ℤ, is_some, Some, None, Option, sym, ap, ◌∙◌, arith}
 use Rattle.std.specs.List.{slice_get}
 use Rattle.tables.specs.declared.Node.{Node}
 use Rattle.guest.specs.Reads.{Among, read_by, reads}
@@ -64,13 +64,6 @@ module _ {U B : Type 0} (grammar : Node → Option (Head U B)) where
   stand c x y z e =
       let p = parts (order_of (grammar x)) (place_of (grammar y)) (constant_of (grammar z)) c e in
       (order_is (grammar x) c.order p.0, place_is (grammar y) c.place p.1, constant_is (grammar z) c.constant p.2)
-
-  pub three_nodes : (d : Node) (ns : List Node) → length ns ≡ 3 → compared_by (order_of (grammar (get_or ns 0 d))) (place_of (grammar (get_or ns 1 d))) (constant_of (grammar (get_or ns 2 d))) ≡ simple grammar ns
-  three_nodes d [] l = absurd (omega arith)
-  three_nodes d (x ∷ []) l = absurd (omega arith)
-  three_nodes d (x ∷ (y ∷ [])) l = absurd (omega arith)
-  three_nodes d (x ∷ (y ∷ (z ∷ []))) l = refl
-  three_nodes d (x ∷ (y ∷ (z ∷ (w ∷ ns)))) l = absurd (omega arith)
 
   module _ {E X Y : Type 0} (A : Algebra U B E X Y) (row : List E) (c : Comparison) (e : E) (here : slice_get row c.place ≡ Some e) where
     inside : ltb c.place (length row) ≡ true
