@@ -117,8 +117,8 @@ module _ {T U B X : Type 0} (written : T → List (Option (Head U B))) (parse : 
         of_none = λ n. not_read hs n (parse (length ns) hs) (parsed (length ns) hs);
       }
 
-pub gives_number : {U B E X Y : Type 0} (grammar : Node → Option (Head U B)) (A : Algebra U B E X Y) (ns : List Node) (row : List E) → GivesNumber grammar A ns row (number_pass grammar A ns row)
-gives_number grammar A ns row = gives written_number parse_number number_back parsed_number (of_number A row) grammar ns row
+pub gives_number : {U B E X Y : Type 0} (grammar : Node → Option (Head U B)) (A : Algebra U B E X Y) (ns : List Node) (row : List E) (r : Option X) → r ≡ number_pass grammar A ns row → GivesNumber grammar A ns row r
+gives_number grammar A ns row r e = rw e (gives written_number parse_number number_back parsed_number (of_number A row) grammar ns row)
 
-pub gives_truth : {U B E X Y : Type 0} (grammar : Node → Option (Head U B)) (A : Algebra U B E X Y) (ns : List Node) (row : List E) → GivesTruth grammar A ns row (truth_pass grammar A ns row)
-gives_truth grammar A ns row = gives written_truth parse_truth truth_back parsed_truth (of_truth A row) grammar ns row
+pub gives_truth : {U B E X Y : Type 0} (grammar : Node → Option (Head U B)) (A : Algebra U B E X Y) (ns : List Node) (row : List E) (r : Option Y) → r ≡ truth_pass grammar A ns row → GivesTruth grammar A ns row r
+gives_truth grammar A ns row r e = rw e (gives written_truth parse_truth truth_back parsed_truth (of_truth A row) grammar ns row)

@@ -1,29 +1,18 @@
--- One pass over the heads does what reading a tree and then going through it does.
-use Rattle.std.proofs.Common.{◌≡◌, ℕ, zero, suc, ◌+◌, ◌<◌, ◌≤◌, List, [], ◌∷◌, length, get_or, drop, ℤ, Some, None, Option, sym, refl, ap, ◌∙◌, add-one, arith}
+-- One pass over the nodes does what reading a tree and then going through it does.
+use Rattle.std.proofs.Common.{◌≡◌, ℕ, zero, suc, ◌<◌, ◌≤◌, List, [], ◌∷◌, length, get_or, drop, ℤ, Some, None, Option, sym, refl, ap, ◌∙◌, arith, w32, SFits, to_z, of_z}
 use Rattle.std.specs.List.{slice_get}
+use Rattle.std.proofs.lemmas.Option.{some_pair_parts, slice_get_read}
+use Rattle.std.proofs.lemmas.Int.{to_z-of_z}
 use Rattle.tables.specs.declared.Node.{Node}
 use Rattle.prefix.specs.declared.grammar.Order.{Order}
 use Rattle.prefix.specs.declared.grammar.Link.{Link}
 use Rattle.prefix.specs.declared.grammar.Head.{Head}
 use Rattle.prefix.specs.declared.grammar.Head.TheVariants.{Read, Constant, Unary, Binary, Choose, Compare, Not, Join}
+use Rattle.prefix.specs.declared.walk.Walk.{Walk}
 use Rattle.prefix.specs.Tree.{Number, Truth}
-use Rattle.prefix.specs.Parse.{placed, heads, next, number_from, truth_from, parse_number, parse_truth}
+use Rattle.prefix.specs.Parse.{heads, parse_number, parse_truth}
 use Rattle.prefix.specs.Pass.{Algebra, of_number, of_truth}
-use Rattle.prefix.specs.Walk.{Moves, onward, seen, numbers, truths, Reads, first, Placed, SomeBelow, HeadAt}
-
-pub below : {A : Type 0} (at n : ℕ) (r : Option A) → at < n → SomeBelow at n r
-below at n None h = tt
-below at n (Some x) h = h
-
-abbrev rest : {H : Type 0} → List H → List H
-rest [] = []
-rest (h ∷ hs) = hs
-
-rest_drop : {H : Type 0} (at : ℕ) (hs : List H) → rest (drop at hs) ≡ drop (suc at) hs
-rest_drop zero [] = refl
-rest_drop zero (h ∷ hs) = refl
-rest_drop (suc a) [] = refl
-rest_drop (suc a) (h ∷ hs) = rest_drop a hs
+use Rattle.prefix.specs.Walk.{seen, found, first, numbers, truths, Reads, ReadsHead}
 
 -- there are as many heads as nodes
 module _ {U B : Type 0} (grammar : Node → Option (Head U B)) (w : ℕ) where
@@ -31,176 +20,119 @@ module _ {U B : Type 0} (grammar : Node → Option (Head U B)) (w : ℕ) where
   heads_length [] = refl
   heads_length (n ∷ ns) = ap suc (heads_length ns)
 
-  pub first_none : (at : ℕ) (ns : List Node) → length ns ≤ at → None ≡ first (drop at (heads grammar w ns))
-  first_none zero [] h = refl
-  first_none zero (n ∷ ns) h = absurd (omega arith)
-  first_none (suc a) [] h = refl
-  first_none (suc a) (n ∷ ns) h = first_none a ns (omega arith)
+  -- a head that was read stood before what is left
+  stood : (ns ms : List Node) (h : Head U B) → ms ≡ drop 1 ns → Some h ≡ first (heads grammar w ns) → (heads grammar w ns ≡ Some h ∷ heads grammar w ms) × (length ns ≡ suc (length ms))
+  stood [] ms h e f = cc
+  stood (n ∷ ns) ms h e f = rw (e, f) (refl, refl)
 
-  pub first_some : (at : ℕ) (ns : List Node) (d : Node) → at < length ns → placed w (grammar (get_or ns at d)) ≡ first (drop at (heads grammar w ns))
-  first_some zero [] d h = absurd (omega arith)
-  first_some zero (n ∷ ns) d h = refl
-  first_some (suc a) [] d h = absurd (omega arith)
-  first_some (suc a) (n ∷ ns) d h = first_some a ns d (omega arith)
+-- what was seen was read
+seen_some : {H X Y : Type 0} (f : X → Y) (o : Option (X × List H)) (y : Y) (q : List H) → Some (y, q) ≡ seen f o → (x : X) × (o ≡ Some (x, q)) × (f x ≡ y)
+seen_some f None y q e = cc
+seen_some f (Some (x, r)) y q e = let p = some_pair_parts y (f x) q r e in (x, ap (λ s. Some (x, s)) (sym p.1), sym p.0)
 
-pub placed_below : {U B : Type 0} (w i : ℕ) (h : Head U B) → Placed w (Some h) → h ≡ Read i → i < w
-placed_below w i h p e = rw e at p
+seen_none : {H X Y : Type 0} (f : X → Y) (o : Option (X × List H)) → None ≡ seen f o → o ≡ None
+seen_none f None e = refl
+seen_none f (Some p) e = cc
 
--- one pass, where N reads one number and T one truth
-abbrev pub run_number : {U B E X Y H : Type 0} → Algebra U B E X Y → List E → (List H → Option (X × List H)) → (List H → Option (Y × List H)) → Option (Head U B) → List H → Option (X × List H)
-run_number A row N T None hs = None
-run_number A row N T (Some (Read i)) hs = Some (A.leaf (slice_get row i), hs)
-run_number A row N T (Some (Constant z)) hs = Some (A.constant z, hs)
-run_number A row N T (Some (Unary u)) hs = next (N hs) (λ a q. Some (A.unary u a, q))
-run_number A row N T (Some (Binary f)) hs = next (N hs) (λ a r. next (N r) (λ b q. Some (A.binary f a b, q)))
-run_number A row N T (Some Choose) hs = next (T hs) (λ t p. next (N p) (λ a r. next (N r) (λ b q. Some (A.choose t a b, q))))
-run_number A row N T (Some (Compare o)) hs = None
-run_number A row N T (Some Not) hs = None
-run_number A row N T (Some (Join l)) hs = None
+-- a head of a truth begins no number
+no_number : {U B E X Y : Type 0} (A : Algebra U B E X Y) (row : List E) (k : ℕ) (h : Head U B) (hs : List (Option (Head U B))) → ((i : ℕ) → h ≡ Read i → ⊥) → ((z : ℤ) → h ≡ Constant z → ⊥) → ((u : U) → h ≡ Unary u → ⊥) → ((f : B) → h ≡ Binary f → ⊥) → (h ≡ Choose → ⊥)
+    → None ≡ numbers A row (suc k) (Some h ∷ hs)
+no_number A row k (Read i) hs v w x y z = absurd (v i refl)
+no_number A row k (Constant i) hs v w x y z = absurd (w i refl)
+no_number A row k (Unary i) hs v w x y z = absurd (x i refl)
+no_number A row k (Binary i) hs v w x y z = absurd (y i refl)
+no_number A row k Choose hs v w x y z = absurd (z refl)
+no_number A row k (Compare o) hs v w x y z = refl
+no_number A row k Not hs v w x y z = refl
+no_number A row k (Join l) hs v w x y z = refl
 
-abbrev pub run_truth : {U B E X Y H : Type 0} → Algebra U B E X Y → List E → (List H → Option (X × List H)) → (List H → Option (Y × List H)) → Option (Head U B) → List H → Option (Y × List H)
-run_truth A row N T None hs = None
-run_truth A row N T (Some (Read i)) hs = None
-run_truth A row N T (Some (Constant z)) hs = None
-run_truth A row N T (Some (Unary u)) hs = None
-run_truth A row N T (Some (Binary f)) hs = None
-run_truth A row N T (Some Choose) hs = None
-run_truth A row N T (Some (Compare o)) hs = next (N hs) (λ a r. next (N r) (λ b q. Some (A.compare o a b, q)))
-run_truth A row N T (Some Not) hs = next (T hs) (λ a q. Some (A.not a, q))
-run_truth A row N T (Some (Join l)) hs = next (T hs) (λ a r. next (T r) (λ b q. Some (A.join l a b, q)))
+module _ {U B E P V W S T : Type 0} (grammar : Node → Option (Head U B)) where
+  module _ {X Y : Type 0} (f : List E → X → Y) (parse : ℕ → List (Option (Head U B)) → Option (X × List (Option (Head U B)))) where
+    -- what a step found was read at any depth that suffices
+    got : (row : List E) (a b : Walk P V W E S T) (y : Y) → a.row.now ≡ row → Reads grammar (λ r k hs. seen (f r) (parse k hs)) a b (Some y) → (k : ℕ) → length a.nodes.now ≤ k
+        → (x : X) × (parse k (heads grammar (length row) a.nodes.now) ≡ Some (x, heads grammar (length row) b.nodes.now)) × (f row x ≡ y)
+    got row a b y e d k l = seen_some (f row) _ y _ (rw e at (d.reads k l))
 
-seen_next : {H X Y C D : Type 0} (f : X → Y) (h : C → D) (o : Option (X × List H)) (g : X → List H → Option (C × List H)) (g' : Y → List H → Option (D × List H)) → ((x : X) (r : List H) → seen h (g x r) ≡ g' (f x) r) → seen h (next o g) ≡ next (seen f o) g'
-seen_next f h None g g' e = refl
-seen_next f h (Some p) g g' e = e p.0 p.1
+    missed : (row : List E) (a b : Walk P V W E S T) → a.row.now ≡ row → Reads grammar (λ r k hs. seen (f r) (parse k hs)) a b None → (k : ℕ) → length a.nodes.now ≤ k
+        → parse k (heads grammar (length row) a.nodes.now) ≡ None
+    missed row a b e d k l = seen_none (f row) _ (rw e at (d.reads k l))
 
-module _ {U B E X Y : Type 0} (A : Algebra U B E X Y) (row : List E) where
-  abbrev W : Number U B → X
-  W t = of_number A row t
-
-  abbrev V : Truth U B → Y
-  V t = of_truth A row t
-
-  module _ (N : List (Option (Head U B)) → Option (Number U B × List (Option (Head U B)))) (T : List (Option (Head U B)) → Option (Truth U B × List (Option (Head U B)))) where
-    fuse_number : (h : Option (Head U B)) (hs : List (Option (Head U B))) → seen W (number_from N T h hs) ≡ run_number A row (λ q. seen W (N q)) (λ q. seen V (T q)) h hs
-    fuse_number None hs = refl
-    fuse_number (Some (Read i)) hs = refl
-    fuse_number (Some (Constant z)) hs = refl
-    fuse_number (Some (Unary u)) hs = seen_next W W (N hs) _ _ (λ a q. refl)
-    fuse_number (Some (Binary f)) hs = seen_next W W (N hs) _ _ (λ a r. seen_next W W (N r) _ _ (λ b q. refl))
-    fuse_number (Some Choose) hs = seen_next V W (T hs) _ _ (λ t p. seen_next W W (N p) _ _ (λ a r. seen_next W W (N r) _ _ (λ b q. refl)))
-    fuse_number (Some (Compare o)) hs = refl
-    fuse_number (Some Not) hs = refl
-    fuse_number (Some (Join l)) hs = refl
-
-    fuse_truth : (h : Option (Head U B)) (hs : List (Option (Head U B))) → seen V (truth_from N T h hs) ≡ run_truth A row (λ q. seen W (N q)) (λ q. seen V (T q)) h hs
-    fuse_truth None hs = refl
-    fuse_truth (Some (Read i)) hs = refl
-    fuse_truth (Some (Constant z)) hs = refl
-    fuse_truth (Some (Unary u)) hs = refl
-    fuse_truth (Some (Binary f)) hs = refl
-    fuse_truth (Some Choose) hs = refl
-    fuse_truth (Some (Compare o)) hs = seen_next W V (N hs) _ _ (λ a r. seen_next W V (N r) _ _ (λ b q. refl))
-    fuse_truth (Some Not) hs = seen_next V V (T hs) _ _ (λ a q. refl)
-    fuse_truth (Some (Join l)) hs = seen_next V V (T hs) _ _ (λ a r. seen_next V V (T r) _ _ (λ b q. refl))
-
-  step_number : (k : ℕ) (hs : List (Option (Head U B))) → numbers A row (suc k) hs ≡ run_number A row (numbers A row k) (truths A row k) (first hs) (rest hs)
-  step_number k [] = refl
-  step_number k (h ∷ hs) = fuse_number (parse_number k) (parse_truth k) h hs
-
-  step_truth : (k : ℕ) (hs : List (Option (Head U B))) → truths A row (suc k) hs ≡ run_truth A row (numbers A row k) (truths A row k) (first hs) (rest hs)
-  step_truth k [] = refl
-  step_truth k (h ∷ hs) = fuse_truth (parse_number k) (parse_truth k) h hs
-
--- a part of an expression, after its head: it may go on by nothing
-abbrev Keeps : {X : Type 0} → ℕ → ℕ → Option (X × ℕ) → Type 0
-Keeps at n None = Unit {0}
-Keeps at n (Some p) = (at ≤ p.1) × (p.1 ≤ n)
-
-pub record Chain {H X : Type 0} (P : ℕ → List H → Option (X × List H)) (n : ℕ) (hs : List H) (at : ℕ) (r : Option (X × ℕ)) : Type 0 where
-  pub keeps : Keeps at (n) r
-  pub reads : (k : ℕ) → n ≤ at + k → onward hs r ≡ P k (drop at hs)
-
-pub done : {H X : Type 0} (x : X) (n : ℕ) (hs : List H) (at : ℕ) → at ≤ n → Chain (λ k q. Some (x, q)) n hs at (Some (x, at))
-done x n hs at h = record { keeps = (omega arith, h); reads = λ k l. refl }
-
-pub none : {H X Y : Type 0} (P : ℕ → List H → Option (X × List H)) (C : ℕ → X → List H → Option (Y × List H)) (n : ℕ) (hs : List H) (at : ℕ) → Reads P n hs at None → Chain (λ k q. next (P k q) (C k)) n hs at None
-none P C n hs at e = record { keeps = tt; reads = λ k l. ap (λ o. next o (C k)) (e.reads k l) }
-
-keeps_on : {X : Type 0} (at mid n : ℕ) (r : Option (X × ℕ)) → at ≤ mid → Keeps mid n r → Keeps at n r
-keeps_on at mid n None h e = tt
-keeps_on at mid n (Some p) h e = (omega arith, e.1)
-
-pub andthen : {H X Y : Type 0} (P : ℕ → List H → Option (X × List H)) (C : ℕ → X → List H → Option (Y × List H)) (n : ℕ) (hs : List H) (at mid : ℕ) (x : X) (r : Option (Y × ℕ)) → Reads P n hs at (Some (x, mid)) → Chain (λ k q. C k x q) n hs mid r → Chain (λ k q. next (P k q) (C k)) n hs at r
-andthen P C n hs at mid x r e d =
-    record { keeps = keeps_on at mid (n) r (omega (arith, e.moves.0)) d.keeps; reads = λ k l. d.reads k (omega (arith, e.moves.0)) ∙ ap (λ o. next o (C k)) (e.reads k l) }
-
-moves_on : {X : Type 0} (at n : ℕ) (r : Option (X × ℕ)) → Keeps (at + 1) n r → Moves at n r
-moves_on at n None e = tt
-moves_on at n (Some p) e = (omega (arith, e.0), e.1)
-
-nothing : {H X : Type 0} (n : ℕ) (hs : List H) (at : ℕ) → Chain {H = H} {X = X} (λ k q. None) n hs at None
-nothing n hs at = record { keeps = tt; reads = λ k l. refl }
-
-module _ {U B E X Y : Type 0} (A : Algebra U B E X Y) (row : List E) (n : ℕ) (hs : List (Option (Head U B))) (at : ℕ) where
-  -- what follows a head that stands here
-  module _ (w : ℕ) (h : Head U B) (d : HeadAt w n hs at (Some h)) (g : Head U B) (e : h ≡ g) where
-    pub number_after : (r : Option (X × ℕ)) → Chain (λ k q. run_number A row (numbers A row k) (truths A row k) (Some g) q) n hs (at + 1) r → Reads (numbers A row) n hs at r
-    number_after r c = record { moves = moves_on at (n) r c.keeps; reads = go }
+    -- what follows a head that was read
+    after_head : (h g : Head U B) (a b c : Walk P V W E S T) (r : Option Y) → ReadsHead grammar a b (Some h) → h ≡ g → c.row.now ≡ b.row.now → length c.nodes.now ≤ length b.nodes.now
+        → ((k : ℕ) → length b.nodes.now ≤ k → found r (heads grammar (length a.row.now) c.nodes.now) ≡ seen (f a.row.now) (parse (suc k) (Some g ∷ heads grammar (length a.row.now) b.nodes.now)))
+        → Reads grammar (λ r k hs. seen (f r) (parse k hs)) a c r
+    after_head h g a b c r d e s l go = record { same_row = s ∙ d.same_row; fewer = omega (arith, before.1); reads = at }
       where
-        f : Some g ≡ first (drop at hs)
-        f = ap Some (sym e) ∙ d.stands
+        before : (heads grammar (length a.row.now) a.nodes.now ≡ Some h ∷ heads grammar (length a.row.now) b.nodes.now) × (length a.nodes.now ≡ suc (length b.nodes.now))
+        before = stood grammar (length a.row.now) a.nodes.now b.nodes.now h d.moved d.stands
 
-        go : (k : ℕ) → n ≤ at + k → onward hs r ≡ numbers A row k (drop at hs)
-        go zero b = absurd (omega (arith, d.inside))
-        go (suc k) b =
-            c.reads k (omega arith) ∙ ap (λ q. run_number A row (numbers A row k) (truths A row k) (Some g) q) (ap (λ j. drop j hs) (add-one at) ∙ sym (rest_drop at hs))
-            ∙ ap (λ o. run_number A row (numbers A row k) (truths A row k) o (rest (drop at hs))) f ∙ sym (step_number A row k (drop at hs))
+        at : (k : ℕ) → length a.nodes.now ≤ k → found r (heads grammar (length a.row.now) c.nodes.now) ≡ seen (f a.row.now) (parse k (heads grammar (length a.row.now) a.nodes.now))
+        at zero m = absurd (omega (arith, before.1))
+        at (suc k) m = rw (before.0, e) (go k (omega (arith, before.1)))
 
-    pub truth_after : (r : Option (Y × ℕ)) → Chain (λ k q. run_truth A row (numbers A row k) (truths A row k) (Some g) q) n hs (at + 1) r → Reads (truths A row) n hs at r
-    truth_after r c = record { moves = moves_on at (n) r c.keeps; reads = go }
-      where
-        f : Some g ≡ first (drop at hs)
-        f = ap Some (sym e) ∙ d.stands
+  module _ {X Y : Type 0} (A : Algebra U B E X Y) (h : Head U B) (a b : Walk P V W E S T) (head : ReadsHead grammar a b (Some h)) where
+    at_number : (g : Head U B) (c : Walk P V W E S T) (r : Option X) → h ≡ g → c.row.now ≡ b.row.now → length c.nodes.now ≤ length b.nodes.now
+        → ((k : ℕ) → length b.nodes.now ≤ k → found r (heads grammar (length a.row.now) c.nodes.now) ≡ seen (of_number A a.row.now) (parse_number (suc k) (Some g ∷ heads grammar (length a.row.now) b.nodes.now)))
+        → Reads grammar (numbers A) a c r
+    at_number g c r e = after_head (of_number A) parse_number h g a b c r head e
 
-        go : (k : ℕ) → n ≤ at + k → onward hs r ≡ truths A row k (drop at hs)
-        go zero b = absurd (omega (arith, d.inside))
-        go (suc k) b =
-            c.reads k (omega arith) ∙ ap (λ q. run_truth A row (numbers A row k) (truths A row k) (Some g) q) (ap (λ j. drop j hs) (add-one at) ∙ sym (rest_drop at hs))
-            ∙ ap (λ o. run_truth A row (numbers A row k) (truths A row k) o (rest (drop at hs))) f ∙ sym (step_truth A row k (drop at hs))
+    at_truth : (g : Head U B) (c : Walk P V W E S T) (r : Option Y) → h ≡ g → c.row.now ≡ b.row.now → length c.nodes.now ≤ length b.nodes.now
+        → ((k : ℕ) → length b.nodes.now ≤ k → found r (heads grammar (length a.row.now) c.nodes.now) ≡ seen (of_truth A a.row.now) (parse_truth (suc k) (Some g ∷ heads grammar (length a.row.now) b.nodes.now)))
+        → Reads grammar (truths A) a c r
+    at_truth g c r e = after_head (of_truth A) parse_truth h g a b c r head e
 
-  -- nothing stands here
-  module _ (e : None ≡ first (drop at hs)) where
-    pub no_number : Reads (numbers A row) n hs at None
-    no_number = record { moves = tt; reads = go }
-      where
-        go : (k : ℕ) → n ≤ at + k → None ≡ numbers A row k (drop at hs)
-        go zero b = refl
-        go (suc k) b = ap (λ o. run_number A row (numbers A row k) (truths A row k) o (rest (drop at hs))) e ∙ sym (step_number A row k (drop at hs))
+    pub read_leaf : (i : ℕ) (x : E) (r : X) → h ≡ Read i → x ≡ get_or b.row.now i x → r ≡ A.leaf (Some (get_or b.row.now i x)) → Reads grammar (numbers A) a b (Some r)
+    read_leaf i x r e is q =
+        let p : i < length a.row.now = rw e at head.placed in
+        let l : slice_get a.row.now i ≡ Some x = slice_get_read a.row.now (length a.row.now) i x refl p (rw head.same_row at is) in
+        at_number (Read i) b (Some r) e refl (omega arith) (λ k m. rw (q, ← is, ← l) refl)
 
-    pub no_truth : Reads (truths A row) n hs at None
-    no_truth = record { moves = tt; reads = go }
-      where
-        go : (k : ℕ) → n ≤ at + k → None ≡ truths A row k (drop at hs)
-        go zero b = refl
-        go (suc k) b = ap (λ o. run_truth A row (numbers A row k) (truths A row k) o (rest (drop at hs))) e ∙ sym (step_truth A row k (drop at hs))
+    pub read_constant : (z : ℤ) (r : X) → h ≡ Constant z → SFits w32 z → r ≡ A.constant (to_z w32 (of_z w32 z)) → Reads grammar (numbers A) a b (Some r)
+    read_constant z r e f q = at_number (Constant z) b (Some r) e refl (omega arith) (λ k m. rw (q, to_z-of_z w32 z f))
 
-  -- a head of the other sort
-  pub rest_number : (h : Head U B) → ((i : ℕ) → h ≡ Read i → ⊥) → ((z : ℤ) → h ≡ Constant z → ⊥) → ((u : U) → h ≡ Unary u → ⊥) → ((f : B) → h ≡ Binary f → ⊥) → (h ≡ Choose → ⊥) → Chain (λ k q. run_number A row (numbers A row k) (truths A row k) (Some h) q) n hs (at + 1) None
-  rest_number (Read i) a b c d e = absurd (a i refl)
-  rest_number (Constant i) a b c d e = absurd (b i refl)
-  rest_number (Unary i) a b c d e = absurd (c i refl)
-  rest_number (Binary i) a b c d e = absurd (d i refl)
-  rest_number Choose a b c d e = absurd (e refl)
-  rest_number (Compare o) a b c d e = nothing n hs (at + 1)
-  rest_number Not a b c d e = nothing n hs (at + 1)
-  rest_number (Join l) a b c d e = nothing n hs (at + 1)
+    module _ (x : X) (c : Walk P V W E S T) (n : Reads grammar (numbers A) b c (Some x)) where
+      first_number : (k : ℕ) → length b.nodes.now ≤ k → (t : Number U B) × (parse_number k (heads grammar (length a.row.now) b.nodes.now) ≡ Some (t, heads grammar (length a.row.now) c.nodes.now)) × (of_number A a.row.now t ≡ x)
+      first_number = got (of_number A) parse_number a.row.now b c x head.same_row n
 
-  pub rest_truth : (h : Head U B) → ((o : Order) → h ≡ Compare o → ⊥) → (h ≡ Not → ⊥) → ((l : Link) → h ≡ Join l → ⊥) → Chain (λ k q. run_truth A row (numbers A row k) (truths A row k) (Some h) q) n hs (at + 1) None
-  rest_truth (Read i) a b c = nothing n hs (at + 1)
-  rest_truth (Constant i) a b c = nothing n hs (at + 1)
-  rest_truth (Unary i) a b c = nothing n hs (at + 1)
-  rest_truth (Binary i) a b c = nothing n hs (at + 1)
-  rest_truth Choose a b c = nothing n hs (at + 1)
-  rest_truth (Compare o) a b c = absurd (a o refl)
-  rest_truth Not a b c = absurd (b refl)
-  rest_truth (Join l) a b c = absurd (c l refl)
+      pub read_unary : (u : U) (r : X) → h ≡ Unary u → r ≡ A.unary u x → Reads grammar (numbers A) a c (Some r)
+      read_unary u r e q = at_number (Unary u) c (Some r) e n.same_row n.fewer (λ k l. let s = first_number k l in rw (q, s.1) (cc s.2))
+
+      module _ (y : X) (d : Walk P V W E S T) (o : Reads grammar (numbers A) c d (Some y)) where
+        second_number : (k : ℕ) → length c.nodes.now ≤ k → (t : Number U B) × (parse_number k (heads grammar (length a.row.now) c.nodes.now) ≡ Some (t, heads grammar (length a.row.now) d.nodes.now)) × (of_number A a.row.now t ≡ y)
+        second_number = got (of_number A) parse_number a.row.now c d y (n.same_row ∙ head.same_row) o
+
+        pub read_binary : (f : B) (r : X) → h ≡ Binary f → r ≡ A.binary f x y → Reads grammar (numbers A) a d (Some r)
+        read_binary f r e q =
+            at_number (Binary f) d (Some r) e (o.same_row ∙ n.same_row) (omega (arith, n.fewer, o.fewer))
+            (λ k l. let s = first_number k l in let t = second_number k (omega (arith, n.fewer)) in rw (q, s.1, t.1) (cc (s.2, t.2)))
+
+        pub read_compare : (f : Order) (r : Y) → h ≡ Compare f → r ≡ A.compare f x y → Reads grammar (truths A) a d (Some r)
+        read_compare f r e q =
+            at_truth (Compare f) d (Some r) e (o.same_row ∙ n.same_row) (omega (arith, n.fewer, o.fewer))
+            (λ k l. let s = first_number k l in let t = second_number k (omega (arith, n.fewer)) in rw (q, s.1, t.1) (cc (s.2, t.2)))
+
+    module _ (w : Y) (c : Walk P V W E S T) (n : Reads grammar (truths A) b c (Some w)) where
+      first_truth : (k : ℕ) → length b.nodes.now ≤ k → (t : Truth U B) × (parse_truth k (heads grammar (length a.row.now) b.nodes.now) ≡ Some (t, heads grammar (length a.row.now) c.nodes.now)) × (of_truth A a.row.now t ≡ w)
+      first_truth = got (of_truth A) parse_truth a.row.now b c w head.same_row n
+
+      pub read_join : (y : Y) (d : Walk P V W E S T) → Reads grammar (truths A) c d (Some y) → (l : Link) (r : Y) → h ≡ Join l → r ≡ A.join l w y → Reads grammar (truths A) a d (Some r)
+      read_join y d o l r e q =
+          at_truth (Join l) d (Some r) e (o.same_row ∙ n.same_row) (omega (arith, n.fewer, o.fewer))
+          (λ k m. let s = first_truth k m in let t = got (of_truth A) parse_truth a.row.now c d y (n.same_row ∙ head.same_row) o k (omega (arith, n.fewer)) in rw (q, s.1, t.1) (cc (s.2, t.2)))
+
+      module _ (x : X) (d : Walk P V W E S T) (o : Reads grammar (numbers A) c d (Some x)) where
+        chosen_number : (k : ℕ) → length c.nodes.now ≤ k → (t : Number U B) × (parse_number k (heads grammar (length a.row.now) c.nodes.now) ≡ Some (t, heads grammar (length a.row.now) d.nodes.now)) × (of_number A a.row.now t ≡ x)
+        chosen_number = got (of_number A) parse_number a.row.now c d x (n.same_row ∙ head.same_row) o
+
+        pub read_choose : (y : X) (z : Walk P V W E S T) → Reads grammar (numbers A) d z (Some y) → (r : X) → h ≡ Choose → r ≡ A.choose w x y → Reads grammar (numbers A) a z (Some r)
+        read_choose y z p r e q =
+            at_number Choose z (Some r) e (p.same_row ∙ (o.same_row ∙ n.same_row)) (omega (arith, n.fewer, o.fewer, p.fewer))
+            (λ k m. let s = first_truth k m in let t = chosen_number k (omega (arith, n.fewer)) in let u = got (of_number A) parse_number a.row.now d z y (o.same_row ∙ (n.same_row ∙ head.same_row)) p k (omega (arith, n.fewer, o.fewer)) in rw (q, s.1, t.1, u.1) (cc (s.2, t.2, u.2)))
+
+        pub read_no_choice : (z : Walk P V W E S T) → Reads grammar (numbers A) d z None → h ≡ Choose → Reads grammar (numbers A) a z None
+        read_no_choice z p e =
+            at_number Choose z None e (p.same_row ∙ (o.same_row ∙ n.same_row)) (omega (arith, n.fewer, o.fewer, p.fewer))
+            (λ k m. let s = first_truth k m in let t = chosen_number k (omega (arith, n.fewer)) in let u = missed (of_number A) parse_number a.row.now d z (o.same_row ∙ (n.same_row ∙ head.same_row)) p k (omega (arith, n.fewer, o.fewer)) in rw (s.1, t.1, u))
+
+    pub read_no_number : ((i : ℕ) → h ≡ Read i → ⊥) → ((z : ℤ) → h ≡ Constant z → ⊥) → ((u : U) → h ≡ Unary u → ⊥) → ((f : B) → h ≡ Binary f → ⊥) → (h ≡ Choose → ⊥) → Reads grammar (numbers A) a b None
+    read_no_number v w x y z = at_number h b None refl refl (omega arith) (λ k m. no_number A a.row.now k h _ v w x y z)

@@ -1,44 +1,28 @@
--- The whole expression: what was found ends where the nodes do.
-use Rattle.std.proofs.Common.{◌≡◌, ℕ, ◌<◌, Bool, true, false, cond, eqb, List, [], ◌∷◌, length, drop, Some, None, Option, sym, refl, ap, ◌∙◌, arith, length-drop, eqb-true}
-use borrow.Author.Tests.{eqb-false}
-use Rattle.prefix.specs.Parse.{whole}
+-- The whole expression: what was found, if no node is left.
+use Rattle.std.proofs.Common.{◌≡◌, ℕ, false, List, [], ◌∷◌, length, Some, None, Option, refl, ap, ◌∙◌, arith}
+use Rattle.std.proofs.lemmas.Bool.Decides.{nat_tests}
+use Rattle.std.specs.Bool.{◌==◌, then_some}
+use Rattle.tables.specs.declared.Node.{Node}
+use Rattle.prefix.specs.declared.grammar.Head.{Head}
+use Rattle.prefix.specs.declared.walk.Walk.{Walk}
+use Rattle.prefix.specs.Parse.{heads, whole}
 use Rattle.prefix.specs.Pass.{given}
-use Rattle.prefix.specs.Walk.{seen, ended, Reads}
-
-no_drop : {H : Type 0} (hs : List H) → drop (length hs) hs ≡ []
-no_drop [] = refl
-no_drop (h ∷ hs) = no_drop hs
+use Rattle.prefix.specs.Walk.{seen, Reads}
 
 -- what is seen of what was read, if nothing is left
-whole_seen : {H A X : Type 0} (W : A → X) (p : Option (A × List H)) → given W (whole p) ≡ whole (seen W p)
-whole_seen W None = refl
-whole_seen W (Some (a, [])) = refl
-whole_seen W (Some (a, h ∷ hs)) = refl
+whole_seen : {H A X : Type 0} (f : A → X) (p : Option (A × List H)) → whole (seen f p) ≡ given f (whole p)
+whole_seen f None = refl
+whole_seen f (Some (a, [])) = refl
+whole_seen f (Some (a, h ∷ hs)) = refl
 
-left_over : {H X : Type 0} (x : X) (hs : List H) → 0 < length hs → whole (Some (x, hs)) ≡ None
-left_over x [] h = absurd (omega arith)
-left_over x (y ∷ hs) h = refl
+module _ {U B E X Y P V W S T : Type 0} (grammar : Node → Option (Head U B)) (f : List E → X → Y) (parse : ℕ → List (Option (Head U B)) → Option (X × List (Option (Head U B)))) (a b : Walk P V W E S T) where
+  pub none_whole : Reads grammar (λ r k hs. seen (f r) (parse k hs)) a b None → None ≡ given (f a.row.now) (whole (parse (length a.nodes.now) (heads grammar (length a.row.now) a.nodes.now)))
+  none_whole d = ap whole (d.reads (length a.nodes.now) (omega arith)) ∙ whole_seen (f a.row.now) _
 
-module _ {H A X : Type 0} (W : A → X) (P : ℕ → List H → Option (A × List H)) (hs : List H) (n : ℕ) (same : length hs ≡ n) where
-  not_any : Reads (λ k q. seen W (P k q)) n hs 0 None → None ≡ given W (whole (P n hs))
-  not_any r = ap whole (r.reads n (omega arith)) ∙ sym (whole_seen W (P n hs))
+  left_over : (y : Y) (w : ℕ) (ns : List Node) → then_some (length ns == 0) y ≡ whole (Some (y, heads grammar w ns))
+  left_over y w [] = refl
+  left_over y w (n ∷ ns) = let e : (length (n ∷ ns) == 0) ≡ false = grind (arith, nat_tests) in rw e
 
-  module _ (x : X) (end : ℕ) (r : Reads (λ k q. seen W (P k q)) n hs 0 (Some (x, end))) where
-    all_of : end ≡ n → Some x ≡ given W (whole (P n hs))
-    all_of e =
-        ap {B = Option X} (λ q. whole (Some (x, q))) (sym (ap (λ j. drop j hs) (e ∙ sym same) ∙ no_drop hs))
-        ∙ ap whole (r.reads n (omega arith)) ∙ sym (whole_seen W (P n hs))
-
-    more_of : (end ≡ n → ⊥) → None ≡ given W (whole (P n hs))
-    more_of e =
-        let l : 0 < length (drop end hs) = omega (arith, length-drop end hs, r.moves.1) in
-        sym (left_over x (drop end hs) l) ∙ ap whole (r.reads n (omega arith)) ∙ sym (whole_seen W (P n hs))
-
-    by_end : (b : Bool) → eqb end n ≡ b → cond b (Some x) None ≡ given W (whole (P n hs))
-    by_end true e = all_of (eqb-true end n e)
-    by_end false e = more_of (eqb-false end n e)
-
-  -- what ends where the nodes do is the whole expression's
-  pub ended_whole : (r : Option (X × ℕ)) → Reads (λ k q. seen W (P k q)) n hs 0 r → ended n r ≡ given W (whole (P n hs))
-  ended_whole None r = not_any r
-  ended_whole (Some p) r = by_end p.0 p.1 r (eqb p.1 n) refl
+  pub some_whole : (y : Y) → Reads grammar (λ r k hs. seen (f r) (parse k hs)) a b (Some y)
+      → then_some (length b.nodes.now == 0) y ≡ given (f a.row.now) (whole (parse (length a.nodes.now) (heads grammar (length a.row.now) a.nodes.now)))
+  some_whole y d = left_over y (length a.row.now) b.nodes.now ∙ (ap whole (d.reads (length a.nodes.now) (omega arith)) ∙ whole_seen (f a.row.now) _)

@@ -1,28 +1,16 @@
--- What the walk over the nodes says of those from a place on. Its parts are private; a pass as a whole is said in Pass.
-use Rattle.std.specs.Prelude.{◌≡◌, ℕ, ◌+◌, ◌<◌, ◌≤◌, cond, List, [], ◌∷◌, drop, Some, None, Option, ◌==◌}
+-- What the walk over the nodes says of those before a step and those after it. Its parts are private; a pass as a whole is
+-- said in Pass.
+use Rattle.std.specs.Prelude.{◌≡◌, ℕ, ◌<◌, ◌≤◌, List, [], ◌∷◌, length, drop, Some, None, Option}
+use Rattle.tables.specs.declared.Node.{Node}
 use Rattle.prefix.specs.declared.grammar.Head.{Head}
 use Rattle.prefix.specs.declared.grammar.Head.TheVariants.{Read, Constant, Unary, Binary, Choose, Compare, Not, Join}
-use Rattle.prefix.specs.Parse.{parse_number, parse_truth}
+use Rattle.prefix.specs.declared.walk.Walk.{Walk}
+use Rattle.prefix.specs.Parse.{heads, parse_number, parse_truth}
 use Rattle.prefix.specs.Pass.{Algebra, of_number, of_truth}
-
--- a result goes on to a later place, and not past the end
-abbrev pub Moves : {X : Type 0} → ℕ → ℕ → Option (X × ℕ) → Type 0
-Moves at n None = Unit {0}
-Moves at n (Some p) = (at < p.1) × (p.1 ≤ n)
-
--- what was found, and the list from the place after it
-abbrev pub onward : {H X : Type 0} → List H → Option (X × ℕ) → Option (X × List H)
-onward hs None = None
-onward hs (Some p) = Some (p.0, drop p.1 hs)
 
 abbrev pub seen : {H X Y : Type 0} → (X → Y) → Option (X × List H) → Option (Y × List H)
 seen f None = None
 seen f (Some p) = Some (f p.0, p.1)
-
--- what was found, if it ends at the place n
-abbrev pub ended : {X : Type 0} → ℕ → Option (X × ℕ) → Option X
-ended n None = None
-ended n (Some p) = cond (p.1 == n) (Some p.0) None
 
 -- what the first number, or truth, gives, and what is left
 abbrev pub numbers : {U B E X Y : Type 0} → Algebra U B E X Y → List E → ℕ → List (Option (Head U B)) → Option (X × List (Option (Head U B)))
@@ -31,10 +19,17 @@ numbers A row k hs = seen (of_number A row) (parse_number k hs)
 abbrev pub truths : {U B E X Y : Type 0} → Algebra U B E X Y → List E → ℕ → List (Option (Head U B)) → Option (Y × List (Option (Head U B)))
 truths A row k hs = seen (of_truth A row) (parse_truth k hs)
 
--- r is what P gives of a list of length n from the place `at` on, at any depth that suffices
-pub record Reads {H X : Type 0} (P : ℕ → List H → Option (X × List H)) (n : ℕ) (hs : List H) (at : ℕ) (r : Option (X × ℕ)) : Type 0 where
-  pub moves : Moves at n r
-  pub reads : (k : ℕ) → n ≤ at + k → onward hs r ≡ P k (drop at hs)
+-- what was found, and what is left after it
+abbrev pub found : {H X : Type 0} → Option X → List H → Option (X × List H)
+found None rest = None
+found (Some x) rest = Some (x, rest)
+
+-- r is what N gives, over the row, of what the nodes before stand for; the nodes after are left. At any depth that suffices
+pub record Reads {U B E X P V W S T : Type 0} (grammar : Node → Option (Head U B)) (N : List E → ℕ → List (Option (Head U B)) → Option (X × List (Option (Head U B)))) (before after : Walk P V W E S T) (r : Option X) : Type 0 where
+  pub same_row : after.row.now ≡ before.row.now
+  pub fewer : length after.nodes.now ≤ length before.nodes.now
+  pub reads : (k : ℕ) → length before.nodes.now ≤ k
+      → found r (heads grammar (length before.row.now) after.nodes.now) ≡ N before.row.now k (heads grammar (length before.row.now) before.nodes.now)
 
 abbrev pub first : {U B : Type 0} → List (Option (Head U B)) → Option (Head U B)
 first [] = None
@@ -56,12 +51,9 @@ Reading P (Some (Join l)) = Unit {0}
 abbrev pub Placed : {U B : Type 0} → ℕ → Option (Head U B) → Type 0
 Placed w h = Reading (λ i. i < w) h
 
-abbrev pub SomeBelow : {A : Type 0} → ℕ → ℕ → Option A → Type 0
-SomeBelow at n None = Unit {0}
-SomeBelow at n (Some h) = at < n
-
--- r is what stands at the place `at` of a list of length n, and none past its end
-pub record HeadAt {U B : Type 0} (w n : ℕ) (hs : List (Option (Head U B))) (at : ℕ) (r : Option (Head U B)) : Type 0 where
-  pub inside : SomeBelow at n r
-  pub placed : Placed w r
-  pub stands : r ≡ first (drop at hs)
+-- r is what the first node stands for over the row, and none past the end
+pub record ReadsHead {U B E P V W S T : Type 0} (grammar : Node → Option (Head U B)) (before after : Walk P V W E S T) (r : Option (Head U B)) : Type 0 where
+  pub same_row : after.row.now ≡ before.row.now
+  pub moved : after.nodes.now ≡ drop 1 before.nodes.now
+  pub placed : Placed (length before.row.now) r
+  pub stands : r ≡ first (heads grammar (length before.row.now) before.nodes.now)

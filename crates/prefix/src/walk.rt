@@ -1,9 +1,9 @@
 // One pass over the nodes of an expression: numbers and truths call each other, and the nodes that are left get fewer.
-ghost use Rattle.std.specs.Prelude.{◌≡◌, ◌<◌, length};
-ghost use Rattle.prefix.specs.Parse.{heads, placed};
+ghost use Rattle.std.specs.Prelude.{◌≡◌};
+ghost use Rattle.prefix.specs.Parse.{placed};
 ghost use Rattle.prefix.specs.Pass.{number_pass, truth_pass};
 ghost use Rattle.prefix.specs.Shape.{GivesNumber, GivesTruth};
-ghost use Rattle.prefix.specs.Walk.{HeadAt, Placed, Reads, ended, numbers, truths};
+ghost use Rattle.prefix.specs.Walk.{Placed, Reads, ReadsHead, numbers, truths};
 
 use crate::grammar::Head;
 use crate::pass::Pass;
@@ -26,72 +26,71 @@ fn within_row<U: Copy, B: Copy>(head: Option<Head<U, B>>, width: usize) -> Optio
     }
 }
 
-// What the node at a place stands for over a row of `width` elements.
-fn head_at<P: Pass>(nodes: &[Node], at: usize, width: usize) -> Option<Head<P::Unary, P::Binary>>
-    ensures { HeadAt width (length nodes.now) (heads P.Pass.grammar width nodes.now) at result }
-{
-    if at < nodes.len() {
-        within_row(P::head(nodes[at]), width)
-    } else {
-        None
-    }
+// The nodes of an expression that are still to be read, over a row.
+#[derive(Drop)]
+struct Walk<'a, P: Pass> {
+    nodes: &'a [Node],
+    row: &'a [P::Element],
 }
 
-#[cycle(number_at_truth_at)]
-fn number_at<P: Pass>(nodes: &[Node], at: usize, row: &[P::Element]) -> Option<(P::Number, usize)>
-    ensures { Reads (numbers P.Pass.algebra row.now) (length nodes.now) (heads P.Pass.grammar (length row.now) nodes.now) at result }
-{
-    match head_at::<P>(nodes, at, row.len())? {
-        Head::Read(place) => Some((P::leaf(row[place]), at + 1)),
-        Head::Constant(argument) => Some((P::constant(argument), at + 1)),
-        Head::Unary(operation) => {
-            let (a, end) = number_at::<P>(nodes, at + 1, row)?;
-            Some((P::unary(operation, a), end))
-        }
-        Head::Binary(operation) => {
-            let (a, mid) = number_at::<P>(nodes, at + 1, row)?;
-            let (b, end) = number_at::<P>(nodes, mid, row)?;
-            Some((P::binary(operation, a, b), end))
-        }
-        Head::Choose => {
-            let (condition, first) = truth_at::<P>(nodes, at + 1, row)?;
-            let (a, mid) = number_at::<P>(nodes, first, row)?;
-            let (b, end) = number_at::<P>(nodes, mid, row)?;
-            Some((P::choose(condition, a, b), end))
-        }
-        _ => None,
+impl<P: Pass> Walk<'_, P> {
+    // What the next node stands for.
+    fn head(&mut self) -> Option<Head<P::Unary, P::Binary>>
+        ensures { ReadsHead P.Pass.grammar self.old self.new result }
+    {
+        let (node, rest) = self.nodes.split_first()?;
+        self.nodes = rest;
+        within_row(P::head(*node), self.row.len())
     }
-}
 
-#[cycle(number_at_truth_at)]
-fn truth_at<P: Pass>(nodes: &[Node], at: usize, row: &[P::Element]) -> Option<(P::Truth, usize)>
-    ensures { Reads (truths P.Pass.algebra row.now) (length nodes.now) (heads P.Pass.grammar (length row.now) nodes.now) at result }
-{
-    match head_at::<P>(nodes, at, row.len())? {
-        Head::Compare(order) => {
-            let (a, mid) = number_at::<P>(nodes, at + 1, row)?;
-            let (b, end) = number_at::<P>(nodes, mid, row)?;
-            Some((P::compare(order, a, b), end))
+    #[cycle(number_truth)]
+    fn number(&mut self) -> Option<P::Number>
+        ensures { Reads P.Pass.grammar (numbers P.Pass.algebra) self.old self.new result }
+    {
+        match self.head()? {
+            Head::Read(place) => Some(P::leaf(self.row[place])),
+            Head::Constant(argument) => Some(P::constant(argument)),
+            Head::Unary(operation) => {
+                let a = self.number()?;
+                Some(P::unary(operation, a))
+            }
+            Head::Binary(operation) => {
+                let a = self.number()?;
+                let b = self.number()?;
+                Some(P::binary(operation, a, b))
+            }
+            Head::Choose => {
+                let condition = self.truth()?;
+                let a = self.number()?;
+                let b = self.number()?;
+                Some(P::choose(condition, a, b))
+            }
+            _ => None,
         }
-        Head::Not => {
-            let (a, end) = truth_at::<P>(nodes, at + 1, row)?;
-            Some((P::not(a), end))
-        }
-        Head::Join(link) => {
-            let (a, mid) = truth_at::<P>(nodes, at + 1, row)?;
-            let (b, end) = truth_at::<P>(nodes, mid, row)?;
-            Some((P::join(link, a, b), end))
-        }
-        _ => None,
     }
-}
 
-// What was found, if it ends where the nodes do.
-fn whole<X: Copy>(found: Option<(X, usize)>, length: usize) -> Option<X>
-    ensures { result ≡ ended length found }
-{
-    let (what, end) = found?;
-    if end == length { Some(what) } else { None }
+    #[cycle(number_truth)]
+    fn truth(&mut self) -> Option<P::Truth>
+        ensures { Reads P.Pass.grammar (truths P.Pass.algebra) self.old self.new result }
+    {
+        match self.head()? {
+            Head::Compare(order) => {
+                let a = self.number()?;
+                let b = self.number()?;
+                Some(P::compare(order, a, b))
+            }
+            Head::Not => {
+                let a = self.truth()?;
+                Some(P::not(a))
+            }
+            Head::Join(link) => {
+                let a = self.truth()?;
+                let b = self.truth()?;
+                Some(P::join(link, a, b))
+            }
+            _ => None,
+        }
+    }
 }
 
 // What a number gives over a row, or none for a bad shape.
@@ -99,7 +98,9 @@ pub fn number_pass<P: Pass>(nodes: &[Node], row: &[P::Element]) -> Option<P::Num
     ensures answer { result ≡ number_pass P.Pass.grammar P.Pass.algebra nodes.now row.now }
     ensures shape { GivesNumber P.Pass.grammar P.Pass.algebra nodes.now row.now result }
 {
-    whole(number_at::<P>(nodes, 0, row), nodes.len())
+    let mut walk = Walk::<P> { nodes, row };
+    let number = walk.number()?;
+    walk.nodes.is_empty().then_some(number)
 }
 
 // What a truth gives over a row, or none for a bad shape.
@@ -107,5 +108,7 @@ pub fn truth_pass<P: Pass>(nodes: &[Node], row: &[P::Element]) -> Option<P::Trut
     ensures answer { result ≡ truth_pass P.Pass.grammar P.Pass.algebra nodes.now row.now }
     ensures shape { GivesTruth P.Pass.grammar P.Pass.algebra nodes.now row.now result }
 {
-    whole(truth_at::<P>(nodes, 0, row), nodes.len())
+    let mut walk = Walk::<P> { nodes, row };
+    let truth = walk.truth()?;
+    walk.nodes.is_empty().then_some(truth)
 }
