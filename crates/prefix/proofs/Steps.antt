@@ -9,7 +9,6 @@ use Rattle.prefix.specs.declared.grammar.Link.{Link}
 use Rattle.prefix.specs.declared.grammar.Head.{Head}
 use Rattle.prefix.specs.declared.grammar.Head.TheVariants.{Read, Constant, Unary, Binary, Choose, Compare, Not, Join}
 use Rattle.prefix.specs.declared.walk.Walk.{Walk}
-use Rattle.prefix.specs.Tree.{Number, Truth}
 use Rattle.prefix.specs.Parse.{heads, parse_number, parse_truth}
 use Rattle.prefix.specs.Pass.{Algebra, of_number, of_truth}
 use Rattle.prefix.specs.Walk.{seen, found, first, numbers, truths, Reads, ReadsHead}
@@ -35,22 +34,24 @@ seen_none f None e = refl
 seen_none f (Some p) e = cc
 
 -- a head of a truth begins no number
-no_number : {U B E X Y : Type 0} (A : Algebra U B E X Y) (row : List E) (k : ℕ) (h : Head U B) (hs : List (Option (Head U B))) → ((i : ℕ) → h ≡ Read i → ⊥) → ((z : ℤ) → h ≡ Constant z → ⊥) → ((u : U) → h ≡ Unary u → ⊥) → ((f : B) → h ≡ Binary f → ⊥) → (h ≡ Choose → ⊥)
+not_number : {U B E X Y : Type 0} (A : Algebra U B E X Y) (row : List E) (k : ℕ) (h : Head U B) (hs : List (Option (Head U B))) → ((i : ℕ) → h ≡ Read i → ⊥) → ((z : ℤ) → h ≡ Constant z → ⊥) → ((u : U) → h ≡ Unary u → ⊥) → ((f : B) → h ≡ Binary f → ⊥) → (h ≡ Choose → ⊥)
     → None ≡ numbers A row (suc k) (Some h ∷ hs)
-no_number A row k (Read i) hs v w x y z = absurd (v i refl)
-no_number A row k (Constant i) hs v w x y z = absurd (w i refl)
-no_number A row k (Unary i) hs v w x y z = absurd (x i refl)
-no_number A row k (Binary i) hs v w x y z = absurd (y i refl)
-no_number A row k Choose hs v w x y z = absurd (z refl)
-no_number A row k (Compare o) hs v w x y z = refl
-no_number A row k Not hs v w x y z = refl
-no_number A row k (Join l) hs v w x y z = refl
+not_number A row k (Read i) hs v w x y z = absurd (v i refl)
+not_number A row k (Constant i) hs v w x y z = absurd (w i refl)
+not_number A row k (Unary i) hs v w x y z = absurd (x i refl)
+not_number A row k (Binary i) hs v w x y z = absurd (y i refl)
+not_number A row k Choose hs v w x y z = absurd (z refl)
+not_number A row k (Compare o) hs v w x y z = refl
+not_number A row k Not hs v w x y z = refl
+not_number A row k (Join l) hs v w x y z = refl
 
 module _ {U B E P V W S T : Type 0} (grammar : Node → Option (Head U B)) where
   module _ {X Y : Type 0} (f : List E → X → Y) (parse : ℕ → List (Option (Head U B)) → Option (X × List (Option (Head U B)))) where
-    -- what a step found was read at any depth that suffices
-    got : (row : List E) (a b : Walk P V W E S T) (y : Y) → a.row.now ≡ row → Reads grammar (λ r k hs. seen (f r) (parse k hs)) a b (Some y) → (k : ℕ) → length a.nodes.now ≤ k
-        → (x : X) × (parse k (heads grammar (length row) a.nodes.now) ≡ Some (x, heads grammar (length row) b.nodes.now)) × (f row x ≡ y)
+    -- at this depth, what a step found was read
+    abbrev Found : List E → Walk P V W E S T → Walk P V W E S T → Y → ℕ → Type 0
+    Found row a b y k = (x : X) × (parse k (heads grammar (length row) a.nodes.now) ≡ Some (x, heads grammar (length row) b.nodes.now)) × (f row x ≡ y)
+
+    got : (row : List E) (a b : Walk P V W E S T) (y : Y) → a.row.now ≡ row → Reads grammar (λ r k hs. seen (f r) (parse k hs)) a b (Some y) → (k : ℕ) → length a.nodes.now ≤ k → Found row a b y k
     got row a b y e d k l = seen_some (f row) _ y _ (rw e at (d.reads k l))
 
     missed : (row : List E) (a b : Walk P V W E S T) → a.row.now ≡ row → Reads grammar (λ r k hs. seen (f r) (parse k hs)) a b None → (k : ℕ) → length a.nodes.now ≤ k
@@ -90,49 +91,79 @@ module _ {U B E P V W S T : Type 0} (grammar : Node → Option (Head U B)) where
     pub read_constant : (z : ℤ) (r : X) → h ≡ Constant z → SFits w32 z → r ≡ A.constant (to_z w32 (of_z w32 z)) → Reads grammar (numbers A) a b (Some r)
     read_constant z r e f q = at_number (Constant z) b (Some r) e refl (omega arith) (λ k m. rw (q, to_z-of_z w32 z f))
 
-    module _ (x : X) (c : Walk P V W E S T) (n : Reads grammar (numbers A) b c (Some x)) where
-      first_number : (k : ℕ) → length b.nodes.now ≤ k → (t : Number U B) × (parse_number k (heads grammar (length a.row.now) b.nodes.now) ≡ Some (t, heads grammar (length a.row.now) c.nodes.now)) × (of_number A a.row.now t ≡ x)
-      first_number = got (of_number A) parse_number a.row.now b c x head.same_row n
+    -- heads that a number follows, and those that two numbers follow
+    module _ (c : Walk P V W E S T) where
+      module _ (n : Reads grammar (numbers A) b c None) where
+        no_first : (k : ℕ) → length b.nodes.now ≤ k → parse_number k (heads grammar (length a.row.now) b.nodes.now) ≡ None
+        no_first = missed (of_number A) parse_number a.row.now b c head.same_row n
 
-      pub read_unary : (u : U) (r : X) → h ≡ Unary u → r ≡ A.unary u x → Reads grammar (numbers A) a c (Some r)
-      read_unary u r e q = at_number (Unary u) c (Some r) e n.same_row n.fewer (λ k l. let s = first_number k l in rw (q, s.1) (cc s.2))
+        pub no_unary : (u : U) → h ≡ Unary u → Reads grammar (numbers A) a c None
+        no_unary u e = at_number (Unary u) c None e n.same_row n.fewer (λ k l. rw (no_first k l))
 
-      module _ (y : X) (d : Walk P V W E S T) (o : Reads grammar (numbers A) c d (Some y)) where
-        second_number : (k : ℕ) → length c.nodes.now ≤ k → (t : Number U B) × (parse_number k (heads grammar (length a.row.now) c.nodes.now) ≡ Some (t, heads grammar (length a.row.now) d.nodes.now)) × (of_number A a.row.now t ≡ y)
-        second_number = got (of_number A) parse_number a.row.now c d y (n.same_row ∙ head.same_row) o
+        pub no_binary : (f : B) → h ≡ Binary f → Reads grammar (numbers A) a c None
+        no_binary f e = at_number (Binary f) c None e n.same_row n.fewer (λ k l. rw (no_first k l))
 
-        pub read_binary : (f : B) (r : X) → h ≡ Binary f → r ≡ A.binary f x y → Reads grammar (numbers A) a d (Some r)
-        read_binary f r e q =
-            at_number (Binary f) d (Some r) e (o.same_row ∙ n.same_row) (omega (arith, n.fewer, o.fewer))
-            (λ k l. let s = first_number k l in let t = second_number k (omega (arith, n.fewer)) in rw (q, s.1, t.1) (cc (s.2, t.2)))
+      module _ (x : X) (n : Reads grammar (numbers A) b c (Some x)) where
+        first_number : (k : ℕ) → length b.nodes.now ≤ k → Found (of_number A) parse_number a.row.now b c x k
+        first_number = got (of_number A) parse_number a.row.now b c x head.same_row n
 
-        pub read_compare : (f : Order) (r : Y) → h ≡ Compare f → r ≡ A.compare f x y → Reads grammar (truths A) a d (Some r)
-        read_compare f r e q =
-            at_truth (Compare f) d (Some r) e (o.same_row ∙ n.same_row) (omega (arith, n.fewer, o.fewer))
-            (λ k l. let s = first_number k l in let t = second_number k (omega (arith, n.fewer)) in rw (q, s.1, t.1) (cc (s.2, t.2)))
+        pub read_unary : (u : U) (r : X) → h ≡ Unary u → r ≡ A.unary u x → Reads grammar (numbers A) a c (Some r)
+        read_unary u r e q = at_number (Unary u) c (Some r) e n.same_row n.fewer (λ k l. let s = first_number k l in rw (q, s.1) (cc s.2))
 
-    module _ (w : Y) (c : Walk P V W E S T) (n : Reads grammar (truths A) b c (Some w)) where
-      first_truth : (k : ℕ) → length b.nodes.now ≤ k → (t : Truth U B) × (parse_truth k (heads grammar (length a.row.now) b.nodes.now) ≡ Some (t, heads grammar (length a.row.now) c.nodes.now)) × (of_truth A a.row.now t ≡ w)
-      first_truth = got (of_truth A) parse_truth a.row.now b c w head.same_row n
+        module _ (d : Walk P V W E S T) where
+          pub half_binary : Reads grammar (numbers A) c d None → (f : B) → h ≡ Binary f → Reads grammar (numbers A) a d None
+          half_binary o f e =
+              at_number (Binary f) d None e (o.same_row ∙ n.same_row) (omega (arith, n.fewer, o.fewer))
+              (λ k l. rw ((first_number k l).1, missed (of_number A) parse_number a.row.now c d (n.same_row ∙ head.same_row) o k (omega (arith, n.fewer))))
 
-      pub read_join : (y : Y) (d : Walk P V W E S T) → Reads grammar (truths A) c d (Some y) → (l : Link) (r : Y) → h ≡ Join l → r ≡ A.join l w y → Reads grammar (truths A) a d (Some r)
-      read_join y d o l r e q =
-          at_truth (Join l) d (Some r) e (o.same_row ∙ n.same_row) (omega (arith, n.fewer, o.fewer))
-          (λ k m. let s = first_truth k m in let t = got (of_truth A) parse_truth a.row.now c d y (n.same_row ∙ head.same_row) o k (omega (arith, n.fewer)) in rw (q, s.1, t.1) (cc (s.2, t.2)))
+          module _ (y : X) (o : Reads grammar (numbers A) c d (Some y)) where
+            second_number : (k : ℕ) → length b.nodes.now ≤ k → Found (of_number A) parse_number a.row.now c d y k
+            second_number k l = got (of_number A) parse_number a.row.now c d y (n.same_row ∙ head.same_row) o k (omega (arith, n.fewer))
 
-      module _ (x : X) (d : Walk P V W E S T) (o : Reads grammar (numbers A) c d (Some x)) where
-        chosen_number : (k : ℕ) → length c.nodes.now ≤ k → (t : Number U B) × (parse_number k (heads grammar (length a.row.now) c.nodes.now) ≡ Some (t, heads grammar (length a.row.now) d.nodes.now)) × (of_number A a.row.now t ≡ x)
-        chosen_number = got (of_number A) parse_number a.row.now c d x (n.same_row ∙ head.same_row) o
+            pub read_binary : (f : B) (r : X) → h ≡ Binary f → r ≡ A.binary f x y → Reads grammar (numbers A) a d (Some r)
+            read_binary f r e q =
+                at_number (Binary f) d (Some r) e (o.same_row ∙ n.same_row) (omega (arith, n.fewer, o.fewer))
+                (λ k l. let s = first_number k l in let t = second_number k l in rw (q, s.1, t.1) (cc (s.2, t.2)))
 
-        pub read_choose : (y : X) (z : Walk P V W E S T) → Reads grammar (numbers A) d z (Some y) → (r : X) → h ≡ Choose → r ≡ A.choose w x y → Reads grammar (numbers A) a z (Some r)
-        read_choose y z p r e q =
-            at_number Choose z (Some r) e (p.same_row ∙ (o.same_row ∙ n.same_row)) (omega (arith, n.fewer, o.fewer, p.fewer))
-            (λ k m. let s = first_truth k m in let t = chosen_number k (omega (arith, n.fewer)) in let u = got (of_number A) parse_number a.row.now d z y (o.same_row ∙ (n.same_row ∙ head.same_row)) p k (omega (arith, n.fewer, o.fewer)) in rw (q, s.1, t.1, u.1) (cc (s.2, t.2, u.2)))
+            pub read_compare : (f : Order) (r : Y) → h ≡ Compare f → r ≡ A.compare f x y → Reads grammar (truths A) a d (Some r)
+            read_compare f r e q =
+                at_truth (Compare f) d (Some r) e (o.same_row ∙ n.same_row) (omega (arith, n.fewer, o.fewer))
+                (λ k l. let s = first_number k l in let t = second_number k l in rw (q, s.1, t.1) (cc (s.2, t.2)))
 
-        pub read_no_choice : (z : Walk P V W E S T) → Reads grammar (numbers A) d z None → h ≡ Choose → Reads grammar (numbers A) a z None
-        read_no_choice z p e =
-            at_number Choose z None e (p.same_row ∙ (o.same_row ∙ n.same_row)) (omega (arith, n.fewer, o.fewer, p.fewer))
-            (λ k m. let s = first_truth k m in let t = chosen_number k (omega (arith, n.fewer)) in let u = missed (of_number A) parse_number a.row.now d z (o.same_row ∙ (n.same_row ∙ head.same_row)) p k (omega (arith, n.fewer, o.fewer)) in rw (s.1, t.1, u))
+      -- heads that a truth follows
+      pub no_condition : Reads grammar (truths A) b c None → h ≡ Choose → Reads grammar (numbers A) a c None
+      no_condition n e = at_number Choose c None e n.same_row n.fewer (λ k l. rw (missed (of_truth A) parse_truth a.row.now b c head.same_row n k l))
 
-    pub read_no_number : ((i : ℕ) → h ≡ Read i → ⊥) → ((z : ℤ) → h ≡ Constant z → ⊥) → ((u : U) → h ≡ Unary u → ⊥) → ((f : B) → h ≡ Binary f → ⊥) → (h ≡ Choose → ⊥) → Reads grammar (numbers A) a b None
-    read_no_number v w x y z = at_number h b None refl refl (omega arith) (λ k m. no_number A a.row.now k h _ v w x y z)
+      module _ (w : Y) (n : Reads grammar (truths A) b c (Some w)) (d : Walk P V W E S T) where
+        first_truth : (k : ℕ) → length b.nodes.now ≤ k → Found (of_truth A) parse_truth a.row.now b c w k
+        first_truth = got (of_truth A) parse_truth a.row.now b c w head.same_row n
+
+        pub read_join : (y : Y) → Reads grammar (truths A) c d (Some y) → (l : Link) (r : Y) → h ≡ Join l → r ≡ A.join l w y → Reads grammar (truths A) a d (Some r)
+        read_join y o l r e q =
+            at_truth (Join l) d (Some r) e (o.same_row ∙ n.same_row) (omega (arith, n.fewer, o.fewer))
+            (λ k m. let s = first_truth k m in let t = got (of_truth A) parse_truth a.row.now c d y (n.same_row ∙ head.same_row) o k (omega (arith, n.fewer)) in rw (q, s.1, t.1) (cc (s.2, t.2)))
+
+        pub half_choice : Reads grammar (numbers A) c d None → h ≡ Choose → Reads grammar (numbers A) a d None
+        half_choice o e =
+            at_number Choose d None e (o.same_row ∙ n.same_row) (omega (arith, n.fewer, o.fewer))
+            (λ k m. rw ((first_truth k m).1, missed (of_number A) parse_number a.row.now c d (n.same_row ∙ head.same_row) o k (omega (arith, n.fewer))))
+
+        module _ (x : X) (o : Reads grammar (numbers A) c d (Some x)) (z : Walk P V W E S T) where
+          chosen_number : (k : ℕ) → length b.nodes.now ≤ k → Found (of_number A) parse_number a.row.now c d x k
+          chosen_number k m = got (of_number A) parse_number a.row.now c d x (n.same_row ∙ head.same_row) o k (omega (arith, n.fewer))
+
+          pub no_choice : Reads grammar (numbers A) d z None → h ≡ Choose → Reads grammar (numbers A) a z None
+          no_choice p e =
+              at_number Choose z None e (p.same_row ∙ (o.same_row ∙ n.same_row)) (omega (arith, n.fewer, o.fewer, p.fewer))
+              (λ k m. rw ((first_truth k m).1, (chosen_number k m).1, missed (of_number A) parse_number a.row.now d z (o.same_row ∙ (n.same_row ∙ head.same_row)) p k (omega (arith, n.fewer, o.fewer))))
+
+          pub read_choose : (y : X) → Reads grammar (numbers A) d z (Some y) → (r : X) → h ≡ Choose → r ≡ A.choose w x y → Reads grammar (numbers A) a z (Some r)
+          read_choose y p r e q =
+              at_number Choose z (Some r) e (p.same_row ∙ (o.same_row ∙ n.same_row)) (omega (arith, n.fewer, o.fewer, p.fewer))
+              (λ k m. let s = first_truth k m in let t = chosen_number k m in let u = got (of_number A) parse_number a.row.now d z y (o.same_row ∙ (n.same_row ∙ head.same_row)) p k (omega (arith, n.fewer, o.fewer)) in rw (q, s.1, t.1, u.1) (cc (s.2, t.2, u.2)))
+
+    pub no_number : ((i : ℕ) → h ≡ Read i → ⊥) → ((z : ℤ) → h ≡ Constant z → ⊥) → ((u : U) → h ≡ Unary u → ⊥) → ((f : B) → h ≡ Binary f → ⊥) → (h ≡ Choose → ⊥) → Reads grammar (numbers A) a b None
+    no_number v w x y z = at_number h b None refl refl (omega arith) (λ k m. not_number A a.row.now k h _ v w x y z)
+
+-- for the arms of numbers that the check finds by these lemmas alone
+pub ruleset number_steps = (read_leaf, read_constant, no_unary, read_unary, no_binary, no_condition)

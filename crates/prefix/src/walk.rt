@@ -44,6 +44,7 @@ impl<P: Pass> Walk<'_, P> {
     }
 
     #[cycle(number_truth)]
+    #[tactic(auto, using(crate::proofs::Steps::number_steps))]
     fn number(&mut self) -> Option<P::Number>
         ensures { Reads P.Pass.grammar (numbers P.Pass.algebra) self.old self.new result }
     {
