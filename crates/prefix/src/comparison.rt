@@ -2,7 +2,7 @@
 use crate::grammar::Order;
 
 // The value at a place of the row, compared with a constant.
-#[derive(Clone, Copy)]
+#[derive(Clone, Copy, PartialEq, Eq, Debug)]
 pub struct Comparison {
     pub order: Order,
     pub place: usize,

@@ -1,6 +1,6 @@
 // What the nodes of an expression in prefix order can stand for.
 
-#[derive(Clone, Copy)]
+#[derive(Clone, Copy, PartialEq, Eq, Debug)]
 pub enum Order {
     Equal,
     NotEqual,
@@ -10,7 +10,7 @@ pub enum Order {
     GreaterOrEqual,
 }
 
-#[derive(Clone, Copy)]
+#[derive(Clone, Copy, PartialEq, Eq, Debug)]
 pub enum Link {
     And,
     Or,
@@ -18,7 +18,7 @@ pub enum Link {
 
 // What stands at the head of a number (the first five) or of a truth (the last three). U and B are the operations
 // on one number and on two that the language has.
-#[derive(Clone, Copy)]
+#[derive(Clone, Copy, PartialEq, Eq, Debug)]
 pub enum Head<U, B> {
     // the value at a place of the row
     Read(usize),

@@ -9,6 +9,7 @@ mod pass;
 mod simple;
 mod trim;
 mod walk;
+mod words;
 
 pub use comparison::Comparison;
 pub use grammar::{Head, Link, Order};

@@ -15,13 +15,7 @@ fn within_row<U: Copy, B: Copy>(head: Option<Head<U, B>>, width: usize) -> Optio
     ensures read { Placed width result }
 {
     match head {
-        Some(Head::Read(place)) => {
-            if place < width {
-                Some(Head::Read(place))
-            } else {
-                None
-            }
-        }
+        Some(Head::Read(place)) if place >= width => None,
         other => other,
     }
 }
