@@ -1,6 +1,7 @@
 -- A pass depends on the elements that the expression reads, and on no others.
-use Rattle.std.proofs.Common.{◌≡◌, ℕ, zero, suc, Bool, true, false, cond, ltb, List, [], ◌∷◌, length, is_some, Some, None, Option, sym, refl, ap, ◌∙◌, arith, le-ltb, lt-ltb}
+use Rattle.std.proofs.Common.{◌≡◌, ℕ, zero, suc, Bool, true, false, cond, ltb, List, [], ◌∷◌, length, is_some, Some, None, Option, sym, refl, ap, ◌∙◌, arith}
 use Rattle.std.proofs.lemmas.Bool.Decides.{nat_tests}
+use Rattle.std.proofs.lemmas.Option.{slice_get_cases}
 use Rattle.std.specs.List.{slice_get}
 use Rattle.tables.specs.declared.Node.{Node}
 use Rattle.guest.specs.Reads.{Among, Alike, read_by, reads}
@@ -92,21 +93,9 @@ same_given P Q f g e None l = refl
 same_given P Q f g e (Some (a, [])) l = ap Some (e a l.0)
 same_given P Q f g e (Some (a, h ∷ hs)) l = refl
 
-ltb_suc : (i n : ℕ) → ltb (suc i) (suc n) ≡ ltb i n
-ltb_suc i n = grind (arith, nat_tests)
-
 -- where a row has something, its length says so
 pub known : {E : Type 0} (r : List E) (i : ℕ) → is_some (slice_get r i) ≡ ltb i (length r)
-known [] zero = refl
-known [] (suc i) = sym (le-ltb (suc i) 0 (omega arith))
-known (x ∷ r) zero = sym (lt-ltb 0 (length (x ∷ r)) (omega arith))
-known (x ∷ r) (suc i) = known r i ∙ sym (ltb_suc i (length r))
-
-two : {X Y Z : Type 0} (f : X → Y → Z) {x p : X} {y q : Y} → x ≡ p → y ≡ q → f x y ≡ f p q
-two f d e = cc
-
-three : {X Y Z W : Type 0} (f : X → Y → Z → W) {x p : X} {y q : Y} {z r : Z} → x ≡ p → y ≡ q → z ≡ r → f x y z ≡ f p q r
-three f c d e = cc
+known r i = grind (arith, nat_tests, slice_get_cases)
 
 module _ {U B E X Y : Type 0} (A : Algebra U B E X Y) (r s : List E) where
   abbrev Same : ℕ → Type 0
@@ -117,13 +106,13 @@ module _ {U B E X Y : Type 0} (A : Algebra U B E X Y) (r s : List E) where
     same_number (Tree.read i) l = ap A.leaf l
     same_number (Tree.constant z) l = refl
     same_number (Tree.unary u a) l = ap (A.unary u) (same_number a l)
-    same_number (Tree.binary f a b) l = two (A.binary f) (same_number a l.0) (same_number b l.1)
-    same_number (Tree.choose t a b) l = three A.choose (same_truth t l.0) (same_number a l.1.0) (same_number b l.1.1)
+    same_number (Tree.binary f a b) l = cc (same_number a l.0, same_number b l.1)
+    same_number (Tree.choose t a b) l = cc (same_truth t l.0, same_number a l.1.0, same_number b l.1.1)
 
     same_truth : (t : Truth U B) → Weighs Same t → of_truth A r t ≡ of_truth A s t
-    same_truth (Tree.compare o a b) l = two (A.compare o) (same_number a l.0) (same_number b l.1)
+    same_truth (Tree.compare o a b) l = cc (same_number a l.0, same_number b l.1)
     same_truth (Tree.not a) l = ap A.not (same_truth a l)
-    same_truth (Tree.join i a b) l = two (A.join i) (same_truth a l.0) (same_truth b l.1)
+    same_truth (Tree.join i a b) l = cc (same_truth a l.0, same_truth b l.1)
 
   same_length : (i : ℕ) → Same i → ltb i (length r) ≡ ltb i (length s)
   same_length i e = sym (known r i) ∙ ap is_some e ∙ known s i

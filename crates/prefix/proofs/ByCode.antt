@@ -1,5 +1,5 @@
 -- Only nodes of code 0 read, and they read the place that the argument names.
-use Rattle.std.proofs.Common.{◌≡◌, ℕ, Bool, true, false, cond, eqb, List, [], ◌∷◌, ℤ, pos, negsuc, Some, None, Option, inl, arith}
+use Rattle.std.proofs.Common.{◌≡◌, ℕ, Bool, true, false, cond, eqb, List, [], ◌∷◌, ℤ, pos, negsuc, Some, None, Option, inl}
 use Rattle.tables.specs.declared.Node.{Node}
 use Rattle.guest.specs.Reads.{Among, named, read_by}
 use Rattle.prefix.specs.declared.grammar.Head.{Head}
@@ -25,8 +25,8 @@ module _ {U B : Type 0} where
   no_read_up code (row ∷ rows) h = no_read_if (eqb code row.0) (Some row.1) (looked_up code rows) h.0 (no_read_up code rows h.1)
 
   reads_named : (a : ℤ) (i : ℕ) → ◌≡◌ {A = Option (Head U B)} (read_of a) (Some (Read i)) → Among i (named a)
-  reads_named (pos n) i e = let d : i ≡ n = cc in inl d
-  reads_named (negsuc n) i e = let z : ◌≡◌ {A = ℕ} 0 1 = cc in absurd (omega arith)
+  reads_named (pos n) i e = inl cc
+  reads_named (negsuc n) i e = cc
 
   reads_if : (b : Bool) (a : ℤ) (o : Option (Head U B)) (i : ℕ) → NoRead o → cond b (read_of a) o ≡ Some (Read i) → Among i (cond b (named a) [])
   reads_if true a o i h e = reads_named a i e

@@ -1,10 +1,10 @@
 -- What a guest owes for each kind of node, and that it then keeps the laws on expressions.
-use Rattle.std.proofs.Common.{◌≡◌, ℕ, Bool, true, false, ◌≢◌, List, set, ℤ, Some, None, Ok, Err, Option, Result, sym, refl, ap, ◌∙◌, subst, arith}
+use Rattle.std.proofs.Common.{◌≡◌, ℕ, Bool, true, false, ◌≢◌, List, set, ℤ, Some, None, Ok, Err, Option, Result, sym, refl, ap, ◌∙◌, subst}
 use Rattle.std.specs.List.{slice_get}
 use Rattle.tables.specs.declared.Node.{Node}
 use Rattle.guest.specs.declared.answers.Reason.{Reason}
 use Rattle.guest.specs.Reads.{Among, Alike, read_by, reads}
-use Rattle.guest.specs.Meaning.{Meaning, Fit, Cut, narrowed, no_guard, never}
+use Rattle.guest.specs.Meaning.{Meaning, Fit, narrowed, never}
 use Rattle.guest.specs.Laws.{SameCut}
 use Rattle.guest.proofs.Rows.{set_other, set_alike, fit_length, Held, fit_held, fit_set}
 use Rattle.prefix.specs.declared.grammar.Order.{Order}
@@ -44,19 +44,10 @@ pub record Sound {U B Ty Va : Type 0} (m : Meaning Ty Va) (L : Language U B Ty V
   pub trim_keeps : (o : Order) (z : ℤ) (t : Ty) (v : Va) → m.holds t v ≡ true
       → L.by_value.compare o (L.by_value.leaf (Some v)) (L.by_value.constant z) ≡ Ok true → Kept m (L.trimmed o z t) v
 
-not_some : {A C : Type 0} (a : A) → ◌≡◌ {A = Option A} None (Some a) → C
-not_some a e = let z : ◌≡◌ {A = ℕ} 0 1 = cc in absurd (omega arith)
-
-not_narrowed : {Ty C : Type 0} (after : List Ty) → ◌≡◌ {A = Cut Ty} no_guard (narrowed after) → C
-not_narrowed after e = let z : ◌≡◌ {A = ℕ} 0 1 = cc in absurd (omega arith)
-
-never_narrowed : {Ty C : Type 0} (after : List Ty) → ◌≡◌ {A = Cut Ty} never (narrowed after) → C
-never_narrowed after e = let z : ◌≡◌ {A = ℕ} 0 1 = cc in absurd (omega arith)
-
 module _ {U B Ty Va : Type 0} (m : Meaning Ty Va) (L : Language U B Ty Va) (S : Sound m L) where
   typed_by : (o : Option (Option Ty)) (v : Option (Result Va Reason)) (t : Ty) → Both (Good m) o v → flattened o ≡ Some t → (x : Va) × (shaped v ≡ Ok x) × (m.holds t x ≡ true)
-  typed_by None v t g e = not_some t e
-  typed_by (Some None) v t g e = not_some t e
+  typed_by None v t g e = cc
+  typed_by (Some None) v t g e = cc
   typed_by (Some (Some u)) None t g e = absurd g
   typed_by (Some (Some u)) (Some (Err r)) t g e = absurd g
   typed_by (Some (Some u)) (Some (Ok x)) t g e = let d : u ≡ t = cc in (x, refl, rw d at g)
@@ -74,8 +65,8 @@ module _ {U B Ty Va : Type 0} (m : Meaning Ty Va) (L : Language U B Ty Va) (S : 
     both_truths = truths_related L.by_type L.by_value (Good m) Told S.nodes types row leaves L.grammar (fit_length m types row fit) ns
 
     decided : (p : Option Bool) (v : Option (Result Bool Reason)) (c : Option Comparison) (after : List Ty) → Both Told p v → cut L.trimmed types p c ≡ narrowed after → (b : Bool) × (shaped v ≡ Ok b)
-    decided None v c after g e = not_narrowed after e
-    decided (Some false) v c after g e = not_narrowed after e
+    decided None v c after g e = cc
+    decided (Some false) v c after g e = cc
     decided (Some true) None c after g e = absurd g
     decided (Some true) (Some (Err r)) c after g e = absurd g
     decided (Some true) (Some (Ok b)) c after g e = (b, refl)
@@ -105,16 +96,16 @@ module _ {U B Ty Va : Type 0} (m : Meaning Ty Va) (L : Language U B Ty Va) (S : 
 
       never_put : (u : Option Ty) → Kept m u read_here.0 → put_back types c u ≡ never → ⊥
       never_put None k e = k
-      never_put (Some u) k e = never_narrowed (set types c.place u) (sym e)
+      never_put (Some u) k e = cc
 
     module _ (yes : guard_verdict L ns row ≡ Ok true) where
       yes_place : (c : Comparison) → simple L.grammar ns ≡ Some c → (t : Option Ty) → slice_get types c.place ≡ t → (after : List Ty) → cut_place L.trimmed types c t ≡ narrowed after → Fit m after row
-      yes_place c s None here after e = not_narrowed after e
+      yes_place c s None here after e = cc
       yes_place c s (Some t) here after e = yes_put yes c s t here (L.trimmed c.order c.constant t) (kept_here yes c s t here) after e
 
       yes_cut : (p : Option Bool) (c : Option Comparison) → simple L.grammar ns ≡ c → (after : List Ty) → cut L.trimmed types p c ≡ narrowed after → Fit m after row
-      yes_cut None c s after e = not_narrowed after e
-      yes_cut (Some false) c s after e = not_narrowed after e
+      yes_cut None c s after e = cc
+      yes_cut (Some false) c s after e = cc
       yes_cut (Some true) None s after e = let d : types ≡ after = cc in subst (λ r. Fit m r row) d fit
       yes_cut (Some true) (Some c) s after e = yes_place c s (slice_get types c.place) refl after e
 
@@ -122,13 +113,13 @@ module _ {U B Ty Va : Type 0} (m : Meaning Ty Va) (L : Language U B Ty Va) (S : 
       yes_fits after e = yes_cut (truth_pass L.grammar L.by_type ns types) (simple L.grammar ns) refl after e
 
       never_place : (c : Comparison) → simple L.grammar ns ≡ Some c → (t : Option Ty) → slice_get types c.place ≡ t → cut_place L.trimmed types c t ≡ never → ⊥
-      never_place c s None here e = let z : ◌≡◌ {A = ℕ} 0 1 = cc in omega arith
+      never_place c s None here e = cc
       never_place c s (Some t) here e = never_put yes c s t here (L.trimmed c.order c.constant t) (kept_here yes c s t here) e
 
       never_cut : (p : Option Bool) (c : Option Comparison) → simple L.grammar ns ≡ c → cut L.trimmed types p c ≡ never → ⊥
-      never_cut None c s e = let z : ◌≡◌ {A = ℕ} 0 1 = cc in omega arith
-      never_cut (Some false) c s e = let z : ◌≡◌ {A = ℕ} 0 1 = cc in omega arith
-      never_cut (Some true) None s e = never_narrowed types (sym e)
+      never_cut None c s e = cc
+      never_cut (Some false) c s e = cc
+      never_cut (Some true) None s e = cc
       never_cut (Some true) (Some c) s e = never_place c s (slice_get types c.place) refl e
 
       pub never_yes : guard_cut L ns types ≡ never → ⊥
@@ -171,18 +162,18 @@ module _ {U B Ty Va : Type 0} (m : Meaning Ty Va) (L : Language U B Ty Va) (S : 
   -- a place that an expression does not read
   module _ (ns : List Node) (types after : List Ty) (x : ℕ) (unread : Among x (reads ns) → ⊥) where
     stay_put : (c : Comparison) → simple L.grammar ns ≡ Some c → (u : Option Ty) → put_back types c u ≡ narrowed after → slice_get after x ≡ slice_get types x
-    stay_put c s None e = never_narrowed after e
+    stay_put c s None e = cc
     stay_put c s (Some u) e =
         let n : x ≢ c.place = λ d. unread (rw d (simple_reads L.grammar S.reads_by_code c ns s)) in
         let d : after ≡ set types c.place u = cc in ap (λ r. slice_get r x) d ∙ set_other types c.place x u n
 
     stay_place : (c : Comparison) → simple L.grammar ns ≡ Some c → (t : Option Ty) → cut_place L.trimmed types c t ≡ narrowed after → slice_get after x ≡ slice_get types x
-    stay_place c s None e = not_narrowed after e
+    stay_place c s None e = cc
     stay_place c s (Some t) e = stay_put c s (L.trimmed c.order c.constant t) e
 
     stay_cut : (p : Option Bool) (c : Option Comparison) → simple L.grammar ns ≡ c → cut L.trimmed types p c ≡ narrowed after → slice_get after x ≡ slice_get types x
-    stay_cut None c s e = not_narrowed after e
-    stay_cut (Some false) c s e = not_narrowed after e
+    stay_cut None c s e = cc
+    stay_cut (Some false) c s e = cc
     stay_cut (Some true) None s e = let d : after ≡ types = cc in ap (λ r. slice_get r x) d
     stay_cut (Some true) (Some c) s e = stay_place c s (slice_get types c.place) e
 
