@@ -45,23 +45,23 @@ not_number A row k (Compare o) hs v w x y z = refl
 not_number A row k Not hs v w x y z = refl
 not_number A row k (Join l) hs v w x y z = refl
 
-module _ {U B E P V W S T : Type 0} (grammar : Node → Option (Head U B)) where
-  module _ {X Y : Type 0} (f : List E → X → Y) (parse : ℕ → List (Option (Head U B)) → Option (X × List (Option (Head U B)))) where
+module _ {P U B E X Y : Type 0} (grammar : Node → Option (Head U B)) where
+  module _ {Q R : Type 0} (f : List E → Q → R) (parse : ℕ → List (Option (Head U B)) → Option (Q × List (Option (Head U B)))) where
     -- at this depth, what a step found was read
-    abbrev Found : List E → Walk P V W E S T → Walk P V W E S T → Y → ℕ → Type 0
-    Found row a b y k = (x : X) × (parse k (heads grammar (length row) a.nodes.now) ≡ Some (x, heads grammar (length row) b.nodes.now)) × (f row x ≡ y)
+    abbrev Found : List E → Walk P U B E X Y → Walk P U B E X Y → R → ℕ → Type 0
+    Found row a b r k = (q : Q) × (parse k (heads grammar (length row) a.nodes.now) ≡ Some (q, heads grammar (length row) b.nodes.now)) × (f row q ≡ r)
 
-    got : (row : List E) (a b : Walk P V W E S T) (y : Y) → a.row.now ≡ row → Reads grammar (λ r k hs. seen (f r) (parse k hs)) a b (Some y) → (k : ℕ) → length a.nodes.now ≤ k → Found row a b y k
-    got row a b y e d k l = seen_some (f row) _ y _ (rw e at (d.reads k l))
+    got : (row : List E) (a b : Walk P U B E X Y) (r : R) → a.row.now ≡ row → Reads grammar (λ w k hs. seen (f w) (parse k hs)) a b (Some r) → (k : ℕ) → length a.nodes.now ≤ k → Found row a b r k
+    got row a b r e d k l = seen_some (f row) _ r _ (rw e at (d.reads k l))
 
-    missed : (row : List E) (a b : Walk P V W E S T) → a.row.now ≡ row → Reads grammar (λ r k hs. seen (f r) (parse k hs)) a b None → (k : ℕ) → length a.nodes.now ≤ k
+    missed : (row : List E) (a b : Walk P U B E X Y) → a.row.now ≡ row → Reads grammar (λ w k hs. seen (f w) (parse k hs)) a b None → (k : ℕ) → length a.nodes.now ≤ k
         → parse k (heads grammar (length row) a.nodes.now) ≡ None
     missed row a b e d k l = seen_none (f row) _ (rw e at (d.reads k l))
 
     -- what follows a head that was read
-    after_head : (h g : Head U B) (a b c : Walk P V W E S T) (r : Option Y) → ReadsHead grammar a b (Some h) → h ≡ g → c.row.now ≡ b.row.now → length c.nodes.now ≤ length b.nodes.now
+    after_head : (h g : Head U B) (a b c : Walk P U B E X Y) (r : Option R) → ReadsHead grammar a b (Some h) → h ≡ g → c.row.now ≡ b.row.now → length c.nodes.now ≤ length b.nodes.now
         → ((k : ℕ) → length b.nodes.now ≤ k → found r (heads grammar (length a.row.now) c.nodes.now) ≡ seen (f a.row.now) (parse (suc k) (Some g ∷ heads grammar (length a.row.now) b.nodes.now)))
-        → Reads grammar (λ r k hs. seen (f r) (parse k hs)) a c r
+        → Reads grammar (λ w k hs. seen (f w) (parse k hs)) a c r
     after_head h g a b c r d e s l go = record { same_row = s ∙ d.same_row; fewer = omega (arith, before.1); reads = at }
       where
         before : (heads grammar (length a.row.now) a.nodes.now ≡ Some h ∷ heads grammar (length a.row.now) b.nodes.now) × (length a.nodes.now ≡ suc (length b.nodes.now))
@@ -71,13 +71,13 @@ module _ {U B E P V W S T : Type 0} (grammar : Node → Option (Head U B)) where
         at zero m = absurd (omega (arith, before.1))
         at (suc k) m = rw (before.0, e) (go k (omega (arith, before.1)))
 
-  module _ {X Y : Type 0} (A : Algebra U B E X Y) (h : Head U B) (a b : Walk P V W E S T) (head : ReadsHead grammar a b (Some h)) where
-    at_number : (g : Head U B) (c : Walk P V W E S T) (r : Option X) → h ≡ g → c.row.now ≡ b.row.now → length c.nodes.now ≤ length b.nodes.now
+  module _ (A : Algebra U B E X Y) (h : Head U B) (a b : Walk P U B E X Y) (head : ReadsHead grammar a b (Some h)) where
+    at_number : (g : Head U B) (c : Walk P U B E X Y) (r : Option X) → h ≡ g → c.row.now ≡ b.row.now → length c.nodes.now ≤ length b.nodes.now
         → ((k : ℕ) → length b.nodes.now ≤ k → found r (heads grammar (length a.row.now) c.nodes.now) ≡ seen (of_number A a.row.now) (parse_number (suc k) (Some g ∷ heads grammar (length a.row.now) b.nodes.now)))
         → Reads grammar (numbers A) a c r
     at_number g c r e = after_head (of_number A) parse_number h g a b c r head e
 
-    at_truth : (g : Head U B) (c : Walk P V W E S T) (r : Option Y) → h ≡ g → c.row.now ≡ b.row.now → length c.nodes.now ≤ length b.nodes.now
+    at_truth : (g : Head U B) (c : Walk P U B E X Y) (r : Option Y) → h ≡ g → c.row.now ≡ b.row.now → length c.nodes.now ≤ length b.nodes.now
         → ((k : ℕ) → length b.nodes.now ≤ k → found r (heads grammar (length a.row.now) c.nodes.now) ≡ seen (of_truth A a.row.now) (parse_truth (suc k) (Some g ∷ heads grammar (length a.row.now) b.nodes.now)))
         → Reads grammar (truths A) a c r
     at_truth g c r e = after_head (of_truth A) parse_truth h g a b c r head e
@@ -92,7 +92,7 @@ module _ {U B E P V W S T : Type 0} (grammar : Node → Option (Head U B)) where
     read_constant z r e f q = at_number (Constant z) b (Some r) e refl (omega arith) (λ k m. rw (q, to_z-of_z w32 z f))
 
     -- heads that a number follows, and those that two numbers follow
-    module _ (c : Walk P V W E S T) where
+    module _ (c : Walk P U B E X Y) where
       module _ (n : Reads grammar (numbers A) b c None) where
         no_first : (k : ℕ) → length b.nodes.now ≤ k → parse_number k (heads grammar (length a.row.now) b.nodes.now) ≡ None
         no_first = missed (of_number A) parse_number a.row.now b c head.same_row n
@@ -110,7 +110,7 @@ module _ {U B E P V W S T : Type 0} (grammar : Node → Option (Head U B)) where
         pub read_unary : (u : U) (r : X) → h ≡ Unary u → r ≡ A.unary u x → Reads grammar (numbers A) a c (Some r)
         read_unary u r e q = at_number (Unary u) c (Some r) e n.same_row n.fewer (λ k l. let s = first_number k l in rw (q, s.1) (cc s.2))
 
-        module _ (d : Walk P V W E S T) where
+        module _ (d : Walk P U B E X Y) where
           pub half_binary : Reads grammar (numbers A) c d None → (f : B) → h ≡ Binary f → Reads grammar (numbers A) a d None
           half_binary o f e =
               at_number (Binary f) d None e (o.same_row ∙ n.same_row) (omega (arith, n.fewer, o.fewer))
@@ -134,7 +134,7 @@ module _ {U B E P V W S T : Type 0} (grammar : Node → Option (Head U B)) where
       pub no_condition : Reads grammar (truths A) b c None → h ≡ Choose → Reads grammar (numbers A) a c None
       no_condition n e = at_number Choose c None e n.same_row n.fewer (λ k l. rw (missed (of_truth A) parse_truth a.row.now b c head.same_row n k l))
 
-      module _ (w : Y) (n : Reads grammar (truths A) b c (Some w)) (d : Walk P V W E S T) where
+      module _ (w : Y) (n : Reads grammar (truths A) b c (Some w)) (d : Walk P U B E X Y) where
         first_truth : (k : ℕ) → length b.nodes.now ≤ k → Found (of_truth A) parse_truth a.row.now b c w k
         first_truth = got (of_truth A) parse_truth a.row.now b c w head.same_row n
 
@@ -148,7 +148,7 @@ module _ {U B E P V W S T : Type 0} (grammar : Node → Option (Head U B)) where
             at_number Choose d None e (o.same_row ∙ n.same_row) (omega (arith, n.fewer, o.fewer))
             (λ k m. rw ((first_truth k m).1, missed (of_number A) parse_number a.row.now c d (n.same_row ∙ head.same_row) o k (omega (arith, n.fewer))))
 
-        module _ (x : X) (o : Reads grammar (numbers A) c d (Some x)) (z : Walk P V W E S T) where
+        module _ (x : X) (o : Reads grammar (numbers A) c d (Some x)) (z : Walk P U B E X Y) where
           chosen_number : (k : ℕ) → length b.nodes.now ≤ k → Found (of_number A) parse_number a.row.now c d x k
           chosen_number k m = got (of_number A) parse_number a.row.now c d x (n.same_row ∙ head.same_row) o k (omega (arith, n.fewer))
 

@@ -8,6 +8,7 @@ use Rattle.prefix.specs.declared.walk.Walk.{Walk}
 use Rattle.prefix.specs.Parse.{heads, parse_number, parse_truth}
 use Rattle.prefix.specs.Pass.{Algebra, of_number, of_truth}
 
+-- what was read, as f sees it
 abbrev pub seen : {H X Y : Type 0} → (X → Y) → Option (X × List H) → Option (Y × List H)
 seen f None = None
 seen f (Some p) = Some (f p.0, p.1)
@@ -24,8 +25,9 @@ abbrev pub found : {H X : Type 0} → Option X → List H → Option (X × List 
 found None rest = None
 found (Some x) rest = Some (x, rest)
 
--- r is what N gives, over the row, of what the nodes before stand for; the nodes after are left. At any depth that suffices
-pub record Reads {U B E X P V W S T : Type 0} (grammar : Node → Option (Head U B)) (N : List E → ℕ → List (Option (Head U B)) → Option (X × List (Option (Head U B)))) (before after : Walk P V W E S T) (r : Option X) : Type 0 where
+-- r is what N gives, over the row, of what the nodes before stand for, and the nodes after are left; at any depth that suffices.
+-- P is the pass, X and Y are what its numbers and truths give
+pub record Reads {P U B E X Y R : Type 0} (grammar : Node → Option (Head U B)) (N : List E → ℕ → List (Option (Head U B)) → Option (R × List (Option (Head U B)))) (before after : Walk P U B E X Y) (r : Option R) : Type 0 where
   pub same_row : after.row.now ≡ before.row.now
   pub fewer : length after.nodes.now ≤ length before.nodes.now
   pub reads : (k : ℕ) → length before.nodes.now ≤ k
@@ -52,7 +54,7 @@ abbrev pub Placed : {U B : Type 0} → ℕ → Option (Head U B) → Type 0
 Placed w h = Reading (λ i. i < w) h
 
 -- r is what the first node stands for over the row, and none past the end
-pub record ReadsHead {U B E P V W S T : Type 0} (grammar : Node → Option (Head U B)) (before after : Walk P V W E S T) (r : Option (Head U B)) : Type 0 where
+pub record ReadsHead {P U B E X Y : Type 0} (grammar : Node → Option (Head U B)) (before after : Walk P U B E X Y) (r : Option (Head U B)) : Type 0 where
   pub same_row : after.row.now ≡ before.row.now
   pub moved : after.nodes.now ≡ drop 1 before.nodes.now
   pub placed : Placed (length before.row.now) r

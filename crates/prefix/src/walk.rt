@@ -1,6 +1,6 @@
 // One pass over the nodes of an expression: numbers and truths call each other, and the nodes that are left get fewer.
-ghost use Rattle.std.specs.Prelude.{◌≡◌};
-ghost use Rattle.prefix.specs.Parse.{placed};
+ghost use Rattle.std.specs.Prelude.{◌≡◌, Some as Found};
+ghost use Rattle.prefix.specs.Parse.{placed, whole};
 ghost use Rattle.prefix.specs.Pass.{number_pass, truth_pass};
 ghost use Rattle.prefix.specs.Shape.{GivesNumber, GivesTruth};
 ghost use Rattle.prefix.specs.Walk.{Placed, Reads, ReadsHead, numbers, truths};
@@ -86,6 +86,13 @@ impl<P: Pass> Walk<'_, P> {
             _ => None,
         }
     }
+
+    // What was found, if no node is left.
+    fn whole<X: Copy>(&self, found: X) -> Option<X>
+        ensures { result ≡ whole (Found (found, self.now.nodes.now)) }
+    {
+        self.nodes.is_empty().then_some(found)
+    }
 }
 
 // What a number gives over a row, or none for a bad shape.
@@ -94,8 +101,8 @@ pub fn number_pass<P: Pass>(nodes: &[Node], row: &[P::Element]) -> Option<P::Num
     ensures shape { GivesNumber P.Pass.grammar P.Pass.algebra nodes.now row.now result }
 {
     let mut walk = Walk::<P> { nodes, row };
-    let number = walk.number()?;
-    walk.nodes.is_empty().then_some(number)
+    let found = walk.number()?;
+    walk.whole(found)
 }
 
 // What a truth gives over a row, or none for a bad shape.
@@ -104,6 +111,6 @@ pub fn truth_pass<P: Pass>(nodes: &[Node], row: &[P::Element]) -> Option<P::Trut
     ensures shape { GivesTruth P.Pass.grammar P.Pass.algebra nodes.now row.now result }
 {
     let mut walk = Walk::<P> { nodes, row };
-    let truth = walk.truth()?;
-    walk.nodes.is_empty().then_some(truth)
+    let found = walk.truth()?;
+    walk.whole(found)
 }
