@@ -118,15 +118,7 @@ module _ {U B E X Y : Type 0} (A : Algebra U B E X Y) (r s : List E) where
   same_length i e = sym (known r i) ∙ ap is_some e ∙ known s i
 
   same_placed : (h : Option (Head U B)) → ((i : ℕ) → h ≡ Some (Read i) → Same i) → placed (length r) h ≡ placed (length s) h
-  same_placed None k = refl
-  same_placed (Some (Read i)) k = ap (λ b. cond b (Some (Read i)) None) (same_length i (k i refl))
-  same_placed (Some (Constant z)) k = refl
-  same_placed (Some (Unary u)) k = refl
-  same_placed (Some (Binary f)) k = refl
-  same_placed (Some Choose) k = refl
-  same_placed (Some (Compare o)) k = refl
-  same_placed (Some Not) k = refl
-  same_placed (Some (Join l)) k = refl
+  same_placed h k = grind (arith, same_length)
 
   at_cond : (b : Bool) (i : ℕ) → Same i → Reading {U = U} {B = B} Same (cond b (Some (Read i)) None)
   at_cond true i e = e
