@@ -1,13 +1,13 @@
 -- One pass over the nodes does what reading a tree and then going through it does.
-use Rattle.std.proofs.Common.{◌≡◌, ℕ, zero, suc, ◌<◌, ◌≤◌, List, [], ◌∷◌, length, get_or, drop, ℤ, Some, None, Option, sym, refl, ap, ◌∙◌, arith, w32, SFits, to_z, of_z}
+use Rattle.std.proofs.Common.{◌≡◌, ℕ, zero, suc, ◌<◌, ◌≤◌, List, [], ◌∷◌, length, get_or, drop, ℤ, Some, None, Option, refl, ap, ◌∙◌, arith, w32, SFits, to_z, of_z}
 use Rattle.std.specs.List.{slice_get}
-use Rattle.std.proofs.lemmas.Option.{some_pair_parts, slice_get_read}
+use Rattle.std.proofs.lemmas.Option.{slice_get_read}
 use Rattle.std.proofs.lemmas.Int.{to_z-of_z}
 use Rattle.tables.specs.declared.Node.{Node}
 use Rattle.prefix.specs.declared.grammar.Order.{Order}
 use Rattle.prefix.specs.declared.grammar.Link.{Link}
 use Rattle.prefix.specs.declared.grammar.Head.{Head}
-use Rattle.prefix.specs.declared.grammar.Head.TheVariants.{Read, Constant, Unary, Binary, Choose, Compare, Not, Join}
+use Rattle.prefix.specs.declared.grammar.Head.TheVariants.{Read, Constant, Unary, Binary, Choose, Compare, Join}
 use Rattle.prefix.specs.declared.walk.Walk.{Walk}
 use Rattle.prefix.specs.Parse.{heads, parse_number, parse_truth}
 use Rattle.prefix.specs.Pass.{Algebra, of_number, of_truth}
@@ -21,29 +21,19 @@ module _ {U B : Type 0} (grammar : Node → Option (Head U B)) (w : ℕ) where
 
   -- a head that was read stood before what is left
   stood : (ns ms : List Node) (h : Head U B) → ms ≡ drop 1 ns → Some h ≡ first (heads grammar w ns) → (heads grammar w ns ≡ Some h ∷ heads grammar w ms) × (length ns ≡ suc (length ms))
-  stood [] ms h e f = cc
-  stood (n ∷ ns) ms h e f = rw (e, f) (refl, refl)
+  stood ns ms h e f = grind arith
 
 -- what was seen was read
 seen_some : {H X Y : Type 0} (f : X → Y) (o : Option (X × List H)) (y : Y) (q : List H) → Some (y, q) ≡ seen f o → (x : X) × (o ≡ Some (x, q)) × (f x ≡ y)
-seen_some f None y q e = cc
-seen_some f (Some (x, r)) y q e = let p = some_pair_parts y (f x) q r e in (x, ap (λ s. Some (x, s)) (sym p.1), sym p.0)
+seen_some f o y q e = grind arith
 
 seen_none : {H X Y : Type 0} (f : X → Y) (o : Option (X × List H)) → None ≡ seen f o → o ≡ None
-seen_none f None e = refl
-seen_none f (Some p) e = cc
+seen_none f o e = grind arith
 
 -- a head of a truth begins no number
 not_number : {U B E X Y : Type 0} (A : Algebra U B E X Y) (row : List E) (k : ℕ) (h : Head U B) (hs : List (Option (Head U B))) → ((i : ℕ) → h ≡ Read i → ⊥) → ((z : ℤ) → h ≡ Constant z → ⊥) → ((u : U) → h ≡ Unary u → ⊥) → ((f : B) → h ≡ Binary f → ⊥) → (h ≡ Choose → ⊥)
     → None ≡ numbers A row (suc k) (Some h ∷ hs)
-not_number A row k (Read i) hs v w x y z = absurd (v i refl)
-not_number A row k (Constant i) hs v w x y z = absurd (w i refl)
-not_number A row k (Unary i) hs v w x y z = absurd (x i refl)
-not_number A row k (Binary i) hs v w x y z = absurd (y i refl)
-not_number A row k Choose hs v w x y z = absurd (z refl)
-not_number A row k (Compare o) hs v w x y z = refl
-not_number A row k Not hs v w x y z = refl
-not_number A row k (Join l) hs v w x y z = refl
+not_number A row k h hs v w x y z = grind arith
 
 module _ {P U B E X Y : Type 0} (grammar : Node → Option (Head U B)) where
   module _ {Q R : Type 0} (f : List E → Q → R) (parse : ℕ → List (Option (Head U B)) → Option (Q × List (Option (Head U B)))) where
