@@ -23,13 +23,6 @@ module _ {U B : Type 0} (grammar : Node → Option (Head U B)) (w : ℕ) where
   stood : (ns ms : List Node) (h : Head U B) → ms ≡ drop 1 ns → Some h ≡ first (heads grammar w ns) → (heads grammar w ns ≡ Some h ∷ heads grammar w ms) × (length ns ≡ suc (length ms))
   stood ns ms h e f = grind arith
 
--- what was seen was read
-seen_some : {H X Y : Type 0} (f : X → Y) (o : Option (X × List H)) (y : Y) (q : List H) → Some (y, q) ≡ seen f o → (x : X) × (o ≡ Some (x, q)) × (f x ≡ y)
-seen_some f o y q e = grind arith
-
-seen_none : {H X Y : Type 0} (f : X → Y) (o : Option (X × List H)) → None ≡ seen f o → o ≡ None
-seen_none f o e = grind arith
-
 -- a head of a truth begins no number
 not_number : {U B E X Y : Type 0} (A : Algebra U B E X Y) (row : List E) (k : ℕ) (h : Head U B) (hs : List (Option (Head U B))) → ((i : ℕ) → h ≡ Read i → ⊥) → ((z : ℤ) → h ≡ Constant z → ⊥) → ((u : U) → h ≡ Unary u → ⊥) → ((f : B) → h ≡ Binary f → ⊥) → (h ≡ Choose → ⊥)
     → None ≡ numbers A row (suc k) (Some h ∷ hs)
@@ -37,17 +30,6 @@ not_number A row k h hs v w x y z = grind arith
 
 module _ {P U B E X Y : Type 0} (grammar : Node → Option (Head U B)) where
   module _ {Q R : Type 0} (f : List E → Q → R) (parse : ℕ → List (Option (Head U B)) → Option (Q × List (Option (Head U B)))) where
-    -- at this depth, what a step found was read
-    abbrev Found : List E → Walk P U B E X Y → Walk P U B E X Y → R → ℕ → Type 0
-    Found row a b r k = (q : Q) × (parse k (heads grammar (length row) a.nodes.now) ≡ Some (q, heads grammar (length row) b.nodes.now)) × (f row q ≡ r)
-
-    got : (row : List E) (a b : Walk P U B E X Y) (r : R) → a.row.now ≡ row → Reads grammar (λ w k hs. seen (f w) (parse k hs)) a b (Some r) → (k : ℕ) → length a.nodes.now ≤ k → Found row a b r k
-    got row a b r e d k l = seen_some (f row) _ r _ (rw e at (d.reads k l))
-
-    missed : (row : List E) (a b : Walk P U B E X Y) → a.row.now ≡ row → Reads grammar (λ w k hs. seen (f w) (parse k hs)) a b None → (k : ℕ) → length a.nodes.now ≤ k
-        → parse k (heads grammar (length row) a.nodes.now) ≡ None
-    missed row a b e d k l = seen_none (f row) _ (rw e at (d.reads k l))
-
     -- what follows a head that was read
     after_head : (h g : Head U B) (a b c : Walk P U B E X Y) (r : Option R) → ReadsHead grammar a b (Some h) → h ≡ g → c.row.now ≡ b.row.now → length c.nodes.now ≤ length b.nodes.now
         → ((k : ℕ) → length b.nodes.now ≤ k → found r (heads grammar (length a.row.now) c.nodes.now) ≡ seen (f a.row.now) (parse (suc k) (Some g ∷ heads grammar (length a.row.now) b.nodes.now)))
@@ -81,76 +63,48 @@ module _ {P U B E X Y : Type 0} (grammar : Node → Option (Head U B)) where
     pub read_constant : (z : ℤ) (r : X) → h ≡ Constant z → SFits w32 z → r ≡ A.constant (to_z w32 (of_z w32 z)) → Reads grammar (numbers A) a b (Some r)
     read_constant z r e f q = at_number (Constant z) b (Some r) e refl (omega arith) (λ k m. rw (q, to_z-of_z w32 z f))
 
-    -- heads that a number follows, and those that two numbers follow
     module _ (c : Walk P U B E X Y) where
+      -- the first part is missing
       module _ (n : Reads grammar (numbers A) b c None) where
-        no_first : (k : ℕ) → length b.nodes.now ≤ k → parse_number k (heads grammar (length a.row.now) b.nodes.now) ≡ None
-        no_first = missed (of_number A) parse_number a.row.now b c head.same_row n
-
         pub no_unary : (u : U) → h ≡ Unary u → Reads grammar (numbers A) a c None
-        no_unary u e = at_number (Unary u) c None e n.same_row n.fewer (λ k l. rw (no_first k l))
+        no_unary u e = at_number (Unary u) c None e n.same_row n.fewer (λ k l. grind (arith, n.reads k, head.same_row))
 
         pub no_binary : (f : B) → h ≡ Binary f → Reads grammar (numbers A) a c None
-        no_binary f e = at_number (Binary f) c None e n.same_row n.fewer (λ k l. rw (no_first k l))
+        no_binary f e = at_number (Binary f) c None e n.same_row n.fewer (λ k l. grind (arith, n.reads k, head.same_row))
 
+      pub no_condition : Reads grammar (truths A) b c None → h ≡ Choose → Reads grammar (numbers A) a c None
+      no_condition n e = at_number Choose c None e n.same_row n.fewer (λ k l. grind (arith, n.reads k, head.same_row))
+
+      -- the first part is a number
       module _ (x : X) (n : Reads grammar (numbers A) b c (Some x)) where
-        first_number : (k : ℕ) → length b.nodes.now ≤ k → Found (of_number A) parse_number a.row.now b c x k
-        first_number = got (of_number A) parse_number a.row.now b c x head.same_row n
-
         pub read_unary : (u : U) (r : X) → h ≡ Unary u → r ≡ A.unary u x → Reads grammar (numbers A) a c (Some r)
-        read_unary u r e q = at_number (Unary u) c (Some r) e n.same_row n.fewer (λ k l. let s = first_number k l in rw (q, s.1) (cc s.2))
+        read_unary u r e q = at_number (Unary u) c (Some r) e n.same_row n.fewer (λ k l. grind (arith, n.reads k, head.same_row))
 
         module _ (d : Walk P U B E X Y) where
           pub half_binary : Reads grammar (numbers A) c d None → (f : B) → h ≡ Binary f → Reads grammar (numbers A) a d None
-          half_binary o f e =
-              at_number (Binary f) d None e (o.same_row ∙ n.same_row) (omega (arith, n.fewer, o.fewer))
-              (λ k l. rw ((first_number k l).1, missed (of_number A) parse_number a.row.now c d (n.same_row ∙ head.same_row) o k (omega (arith, n.fewer))))
+          half_binary o f e = at_number (Binary f) d None e (o.same_row ∙ n.same_row) (omega (arith, n.fewer, o.fewer)) (λ k l. grind (arith, n.reads k, o.reads k, head.same_row, n.same_row))
 
           module _ (y : X) (o : Reads grammar (numbers A) c d (Some y)) where
-            second_number : (k : ℕ) → length b.nodes.now ≤ k → Found (of_number A) parse_number a.row.now c d y k
-            second_number k l = got (of_number A) parse_number a.row.now c d y (n.same_row ∙ head.same_row) o k (omega (arith, n.fewer))
-
             pub read_binary : (f : B) (r : X) → h ≡ Binary f → r ≡ A.binary f x y → Reads grammar (numbers A) a d (Some r)
-            read_binary f r e q =
-                at_number (Binary f) d (Some r) e (o.same_row ∙ n.same_row) (omega (arith, n.fewer, o.fewer))
-                (λ k l. let s = first_number k l in let t = second_number k l in rw (q, s.1, t.1) (cc (s.2, t.2)))
+            read_binary f r e q = at_number (Binary f) d (Some r) e (o.same_row ∙ n.same_row) (omega (arith, n.fewer, o.fewer)) (λ k l. grind (arith, n.reads k, o.reads k, head.same_row, n.same_row))
 
             pub read_compare : (f : Order) (r : Y) → h ≡ Compare f → r ≡ A.compare f x y → Reads grammar (truths A) a d (Some r)
-            read_compare f r e q =
-                at_truth (Compare f) d (Some r) e (o.same_row ∙ n.same_row) (omega (arith, n.fewer, o.fewer))
-                (λ k l. let s = first_number k l in let t = second_number k l in rw (q, s.1, t.1) (cc (s.2, t.2)))
+            read_compare f r e q = at_truth (Compare f) d (Some r) e (o.same_row ∙ n.same_row) (omega (arith, n.fewer, o.fewer)) (λ k l. grind (arith, n.reads k, o.reads k, head.same_row, n.same_row))
 
-      -- heads that a truth follows
-      pub no_condition : Reads grammar (truths A) b c None → h ≡ Choose → Reads grammar (numbers A) a c None
-      no_condition n e = at_number Choose c None e n.same_row n.fewer (λ k l. rw (missed (of_truth A) parse_truth a.row.now b c head.same_row n k l))
-
+      -- the first part is a truth
       module _ (w : Y) (n : Reads grammar (truths A) b c (Some w)) (d : Walk P U B E X Y) where
-        first_truth : (k : ℕ) → length b.nodes.now ≤ k → Found (of_truth A) parse_truth a.row.now b c w k
-        first_truth = got (of_truth A) parse_truth a.row.now b c w head.same_row n
-
-        pub read_join : (y : Y) → Reads grammar (truths A) c d (Some y) → (l : Link) (r : Y) → h ≡ Join l → r ≡ A.join l w y → Reads grammar (truths A) a d (Some r)
-        read_join y o l r e q =
-            at_truth (Join l) d (Some r) e (o.same_row ∙ n.same_row) (omega (arith, n.fewer, o.fewer))
-            (λ k m. let s = first_truth k m in let t = got (of_truth A) parse_truth a.row.now c d y (n.same_row ∙ head.same_row) o k (omega (arith, n.fewer)) in rw (q, s.1, t.1) (cc (s.2, t.2)))
+        pub read_join : (v : Y) → Reads grammar (truths A) c d (Some v) → (l : Link) (r : Y) → h ≡ Join l → r ≡ A.join l w v → Reads grammar (truths A) a d (Some r)
+        read_join v o l r e q = at_truth (Join l) d (Some r) e (o.same_row ∙ n.same_row) (omega (arith, n.fewer, o.fewer)) (λ k m. grind (arith, n.reads k, o.reads k, head.same_row, n.same_row))
 
         pub half_choice : Reads grammar (numbers A) c d None → h ≡ Choose → Reads grammar (numbers A) a d None
-        half_choice o e =
-            at_number Choose d None e (o.same_row ∙ n.same_row) (omega (arith, n.fewer, o.fewer))
-            (λ k m. rw ((first_truth k m).1, missed (of_number A) parse_number a.row.now c d (n.same_row ∙ head.same_row) o k (omega (arith, n.fewer))))
+        half_choice o e = at_number Choose d None e (o.same_row ∙ n.same_row) (omega (arith, n.fewer, o.fewer)) (λ k m. grind (arith, n.reads k, o.reads k, head.same_row, n.same_row))
 
         module _ (x : X) (o : Reads grammar (numbers A) c d (Some x)) (z : Walk P U B E X Y) where
-          chosen_number : (k : ℕ) → length b.nodes.now ≤ k → Found (of_number A) parse_number a.row.now c d x k
-          chosen_number k m = got (of_number A) parse_number a.row.now c d x (n.same_row ∙ head.same_row) o k (omega (arith, n.fewer))
-
           pub no_choice : Reads grammar (numbers A) d z None → h ≡ Choose → Reads grammar (numbers A) a z None
-          no_choice p e =
-              at_number Choose z None e (p.same_row ∙ (o.same_row ∙ n.same_row)) (omega (arith, n.fewer, o.fewer, p.fewer))
-              (λ k m. rw ((first_truth k m).1, (chosen_number k m).1, missed (of_number A) parse_number a.row.now d z (o.same_row ∙ (n.same_row ∙ head.same_row)) p k (omega (arith, n.fewer, o.fewer))))
+          no_choice p e = at_number Choose z None e (p.same_row ∙ (o.same_row ∙ n.same_row)) (omega (arith, n.fewer, o.fewer, p.fewer)) (λ k m. grind (arith, n.reads k, o.reads k, p.reads k, head.same_row, n.same_row, o.same_row))
 
           pub read_choose : (y : X) → Reads grammar (numbers A) d z (Some y) → (r : X) → h ≡ Choose → r ≡ A.choose w x y → Reads grammar (numbers A) a z (Some r)
-          read_choose y p r e q =
-              at_number Choose z (Some r) e (p.same_row ∙ (o.same_row ∙ n.same_row)) (omega (arith, n.fewer, o.fewer, p.fewer))
-              (λ k m. let s = first_truth k m in let t = chosen_number k m in let u = got (of_number A) parse_number a.row.now d z y (o.same_row ∙ (n.same_row ∙ head.same_row)) p k (omega (arith, n.fewer, o.fewer)) in rw (q, s.1, t.1, u.1) (cc (s.2, t.2, u.2)))
+          read_choose y p r e q = at_number Choose z (Some r) e (p.same_row ∙ (o.same_row ∙ n.same_row)) (omega (arith, n.fewer, o.fewer, p.fewer)) (λ k m. grind (arith, n.reads k, o.reads k, p.reads k, head.same_row, n.same_row, o.same_row))
 
     pub no_number : ((i : ℕ) → h ≡ Read i → ⊥) → ((z : ℤ) → h ≡ Constant z → ⊥) → ((u : U) → h ≡ Unary u → ⊥) → ((f : B) → h ≡ Binary f → ⊥) → (h ≡ Choose → ⊥) → Reads grammar (numbers A) a b None
     no_number v w x y z = at_number h b None refl refl (omega arith) (λ k m. not_number A a.row.now k h _ v w x y z)
