@@ -1,10 +1,10 @@
 // The operations of the range guest on one number and on two.
 
 // The byte of a number: 0..255, equal to it modulo 256.
-#[derive(Clone, Copy)]
+#[derive(Clone, Copy, PartialEq, Eq, Debug)]
 pub struct Byte;
 
-#[derive(Clone, Copy)]
+#[derive(Clone, Copy, PartialEq, Eq, Debug)]
 pub enum Arithmetic {
     Add,
     Subtract,

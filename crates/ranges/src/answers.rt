@@ -4,7 +4,6 @@ ghost use Rattle.intervals.specs.Meaning.{ranges as range_meaning};
 ghost use Rattle.intervals.proofs.Laws.{range_laws};
 
 use crate::evaluation::Evaluation;
-use crate::spans::{holds, inside, span};
 use crate::trimming::Trimming;
 use crate::typing::Typing;
 use guest::{Guest, Narrowing, Reason};
@@ -26,14 +25,14 @@ impl Guest for Ranges {
 
     fn make(a: i32, b: i32) -> Option<Range> {
         if -32_768 <= a && b <= 32_767 {
-            span(a as i64, b as i64)
+            Range::spanning(i64::from(a), i64::from(b))
         } else {
             None
         }
     }
 
     fn decode(of: Range, code: i32) -> Option<i32> {
-        if holds(of, code) { Some(code) } else { None }
+        of.holds(code).then_some(code)
     }
 
     fn encode(value: i32) -> i32 {
@@ -51,11 +50,11 @@ impl Guest for Ranges {
     }
 
     fn holds(of: Range, value: i32) -> bool {
-        holds(of, value)
+        of.holds(value)
     }
 
     fn within(inner: Range, outer: Range) -> bool {
-        inside(inner, outer)
+        inner.is_within(outer)
     }
 
     fn typed(nodes: &[Node], types: &[Range]) -> Option<Range> {
@@ -63,17 +62,11 @@ impl Guest for Ranges {
     }
 
     fn value(nodes: &[Node], row: &[i32]) -> Result<i32, Reason> {
-        match number_pass::<Evaluation>(nodes, row) {
-            Some(outcome) => outcome,
-            None => Err(Reason::BadShape),
-        }
+        number_pass::<Evaluation>(nodes, row).unwrap_or(Err(Reason::BadShape))
     }
 
     fn verdict(nodes: &[Node], row: &[i32]) -> Result<bool, Reason> {
-        match truth_pass::<Evaluation>(nodes, row) {
-            Some(outcome) => outcome,
-            None => Err(Reason::BadShape),
-        }
+        truth_pass::<Evaluation>(nodes, row).unwrap_or(Err(Reason::BadShape))
     }
 
     fn narrow(nodes: &[Node], types: &mut [Range]) -> Narrowing {

@@ -4,10 +4,9 @@
 mod answers;
 mod evaluation;
 mod grammar;
-mod spans;
 mod trimming;
 mod typing;
 mod wide;
 
 pub use answers::Ranges;
-pub use intervals::Range;
+pub use intervals::{Arithmetic, Byte, Range};

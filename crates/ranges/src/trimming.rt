@@ -3,7 +3,6 @@ ghost use Rattle.std.specs.Prelude.{◌≡◌, pos, ◌+ℤ◌, ◌-ℤ◌, if�
 ghost use Rattle.intervals.specs.Narrow.{trimmed as trimmed_by};
 ghost use Rattle.intervals.specs.Value.{same};
 
-use crate::spans::span;
 use crate::wide::{minus, plus};
 use intervals::Range;
 use prefix::{Order, Trim};
@@ -37,15 +36,15 @@ impl Trim for Trimming {
         let lo = of.lo as i64;
         let hi = of.hi as i64;
         match order {
-            Order::Equal => span(lo.max(constant as i64), hi.min(constant as i64)),
-            Order::NotEqual => span(
+            Order::Equal => Range::spanning(lo.max(constant as i64), hi.min(constant as i64)),
+            Order::NotEqual => Range::spanning(
                 first_without(of.lo, constant),
                 last_without(of.hi, constant),
             ),
-            Order::Less => span(lo, hi.min(minus(constant, 1))),
-            Order::LessOrEqual => span(lo, hi.min(constant as i64)),
-            Order::Greater => span(lo.max(plus(constant, 1)), hi),
-            Order::GreaterOrEqual => span(lo.max(constant as i64), hi),
+            Order::Less => Range::spanning(lo, hi.min(minus(constant, 1))),
+            Order::LessOrEqual => Range::spanning(lo, hi.min(constant as i64)),
+            Order::Greater => Range::spanning(lo.max(plus(constant, 1)), hi),
+            Order::GreaterOrEqual => Range::spanning(lo.max(constant as i64), hi),
         }
     }
 }

@@ -5,7 +5,6 @@ ghost use Rattle.intervals.specs.Range.{range as range_of};
 ghost use Rattle.intervals.specs.Typing.{least_of, greatest_of, corners, spread as spread_of, hull as hull_of, by_type};
 
 use crate::grammar::head;
-use crate::spans::{holds, span};
 use crate::wide::{minus, over, plus, times};
 use intervals::{Arithmetic, Byte, Range};
 use prefix::{Head, Link, Order, Pass};
@@ -15,19 +14,19 @@ use tables::Node;
 fn around(a: i64, b: i64, c: i64, d: i64) -> Option<Range>
     ensures { result ≡ range_of (least_of a b c d) (greatest_of a b c d) }
 {
-    span(a.min(b).min(c.min(d)), a.max(b).max(c.max(d)))
+    Range::spanning(a.min(b).min(c.min(d)), a.max(b).max(c.max(d)))
 }
 
 fn sum(r: Range, s: Range) -> Option<Range>
     ensures { result ≡ spread_of Arithmetic.Add r s }
 {
-    span(plus(r.lo, s.lo), plus(r.hi, s.hi))
+    Range::spanning(plus(r.lo, s.lo), plus(r.hi, s.hi))
 }
 
 fn difference(r: Range, s: Range) -> Option<Range>
     ensures { result ≡ spread_of Arithmetic.Subtract r s }
 {
-    span(minus(r.lo, s.hi), minus(r.hi, s.lo))
+    Range::spanning(minus(r.lo, s.hi), minus(r.hi, s.lo))
 }
 
 fn product(r: Range, s: Range) -> Option<Range>
@@ -57,7 +56,7 @@ fn quotients(r: Range, s: Range) -> Option<Range>
 fn quotient(r: Range, s: Range) -> Option<Range>
     ensures { result ≡ spread_of Arithmetic.Divide r s }
 {
-    if holds(s, 0) { None } else { quotients(r, s) }
+    if s.holds(0) { None } else { quotients(r, s) }
 }
 
 fn spread(operation: Arithmetic, r: Range, s: Range) -> Option<Range>
@@ -75,7 +74,7 @@ fn spread(operation: Arithmetic, r: Range, s: Range) -> Option<Range>
 fn hull(r: Range, s: Range) -> Option<Range>
     ensures { result ≡ hull_of r s }
 {
-    span(r.lo.min(s.lo) as i64, r.hi.max(s.hi) as i64)
+    Range::spanning(r.lo.min(s.lo) as i64, r.hi.max(s.hi) as i64)
 }
 
 pub(crate) struct Typing;
@@ -104,12 +103,12 @@ impl Pass for Typing {
     }
 
     fn constant(argument: i32) -> Option<Range> {
-        span(argument as i64, argument as i64)
+        Range::spanning(argument as i64, argument as i64)
     }
 
     fn unary(_operation: Byte, a: Option<Range>) -> Option<Range> {
         match a {
-            Some(_) => span(0, 255),
+            Some(_) => Range::spanning(0, 255),
             None => None,
         }
     }
