@@ -1,8 +1,8 @@
 // The pass by types: the range of each number, if it has one, and whether all parts of a truth have one.
-ghost use Rattle.std.specs.Prelude.{◌≡◌, pos, ◌≢◌, int_div};
+ghost use Rattle.std.specs.Prelude.{◌≡◌, ℤ};
 ghost use Rattle.intervals.specs.Grammar.{head as head_of};
 ghost use Rattle.intervals.specs.Range.{range as range_of};
-ghost use Rattle.intervals.specs.Typing.{least_of, greatest_of, corners, spread as spread_of, hull as hull_of, by_type};
+ghost use Rattle.intervals.specs.Typing.{least_of, greatest_of, spread as spread_of, hull as hull_of, by_type};
 
 use crate::grammar::head;
 use crate::wide::{minus, over, plus, times};
@@ -10,10 +10,19 @@ use intervals::{Arithmetic, Byte, Range};
 use prefix::{Head, Link, Order, Pass};
 use tables::Node;
 
-// From the least to the greatest of the four results at the ends.
-fn around(a: i64, b: i64, c: i64, d: i64) -> Option<Range>
-    ensures { result ≡ range_of (least_of a b c d) (greatest_of a b c d) }
+// From the least to the greatest of what an operation gives at the ends.
+fn corners<F: Fn(i32, i32) -> i64>(at: F, r: Range, s: Range) -> Option<Range>
+    requires low_low { F.pre at r.lo s.lo }
+    requires low_high { F.pre at r.lo s.hi }
+    requires high_low { F.pre at r.hi s.lo }
+    requires high_high { F.pre at r.hi s.hi }
+    ensures { (a b c d : ℤ) × F.post at r.lo s.lo a × F.post at r.lo s.hi b × F.post at r.hi s.lo c × F.post at r.hi s.hi d
+        × (result ≡ range_of (least_of a b c d) (greatest_of a b c d)) }
 {
+    let a = at(r.lo, s.lo);
+    let b = at(r.lo, s.hi);
+    let c = at(r.hi, s.lo);
+    let d = at(r.hi, s.hi);
     Range::spanning(a.min(b).min(c.min(d)), a.max(b).max(c.max(d)))
 }
 
@@ -32,31 +41,17 @@ fn difference(r: Range, s: Range) -> Option<Range>
 fn product(r: Range, s: Range) -> Option<Range>
     ensures { result ≡ spread_of Arithmetic.Multiply r s }
 {
-    around(
-        times(r.lo, s.lo),
-        times(r.lo, s.hi),
-        times(r.hi, s.lo),
-        times(r.hi, s.hi),
-    )
-}
-
-fn quotients(r: Range, s: Range) -> Option<Range>
-    requires lo { s.lo ≢ pos 0 }
-    requires hi { s.hi ≢ pos 0 }
-    ensures { result ≡ corners int_div r s }
-{
-    around(
-        over(r.lo, s.lo),
-        over(r.lo, s.hi),
-        over(r.hi, s.lo),
-        over(r.hi, s.hi),
-    )
+    corners(times, r, s)
 }
 
 fn quotient(r: Range, s: Range) -> Option<Range>
     ensures { result ≡ spread_of Arithmetic.Divide r s }
 {
-    if s.holds(0) { None } else { quotients(r, s) }
+    if s.holds(0) {
+        None
+    } else {
+        corners(over, r, s)
+    }
 }
 
 fn spread(operation: Arithmetic, r: Range, s: Range) -> Option<Range>
@@ -74,7 +69,7 @@ fn spread(operation: Arithmetic, r: Range, s: Range) -> Option<Range>
 fn hull(r: Range, s: Range) -> Option<Range>
     ensures { result ≡ hull_of r s }
 {
-    Range::spanning(r.lo.min(s.lo) as i64, r.hi.max(s.hi) as i64)
+    Range::spanning(i64::from(r.lo.min(s.lo)), i64::from(r.hi.max(s.hi)))
 }
 
 pub(crate) struct Typing;
@@ -103,14 +98,11 @@ impl Pass for Typing {
     }
 
     fn constant(argument: i32) -> Option<Range> {
-        Range::spanning(argument as i64, argument as i64)
+        Range::spanning(i64::from(argument), i64::from(argument))
     }
 
     fn unary(_operation: Byte, a: Option<Range>) -> Option<Range> {
-        match a {
-            Some(_) => Range::spanning(0, 255),
-            None => None,
-        }
+        a.and_then(|_| Range::spanning(0, 255))
     }
 
     fn binary(operation: Arithmetic, a: Option<Range>, b: Option<Range>) -> Option<Range> {

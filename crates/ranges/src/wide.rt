@@ -4,24 +4,24 @@ ghost use Rattle.std.specs.Prelude.{◌≡◌, pos, ◌+ℤ◌, ◌-ℤ◌, ◌*
 pub(crate) fn plus(a: i32, b: i32) -> i64
     ensures { result ≡ a +ℤ b }
 {
-    a as i64 + b as i64
+    i64::from(a) + i64::from(b)
 }
 
 pub(crate) fn minus(a: i32, b: i32) -> i64
     ensures { result ≡ a -ℤ b }
 {
-    a as i64 - b as i64
+    i64::from(a) - i64::from(b)
 }
 
 pub(crate) fn times(a: i32, b: i32) -> i64
     ensures { result ≡ a *ℤ b }
 {
-    a as i64 * b as i64
+    i64::from(a) * i64::from(b)
 }
 
 pub(crate) fn over(a: i32, b: i32) -> i64
     requires { b ≢ pos 0 }
     ensures { result ≡ int_div a b }
 {
-    a as i64 / b as i64
+    i64::from(a) / i64::from(b)
 }

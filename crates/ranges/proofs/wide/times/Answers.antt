@@ -1,13 +1,8 @@
-use Rattle.std.proofs.Common.{◌*ℤ◌, arith, w32, w64, SFits}
-use borrow.Author.Numbers.{signed_product}
-use Rattle.std.proofs.lemmas.Int.{to_z-of_z, ints}
+use Rattle.std.proofs.Common.{◌*ℤ◌, ◌^◌, arith, w32, w64, SFits}
+use Rattle.std.proofs.lemmas.Int.{to_z-of_z, ints, fits_signed_mul}
 use Rattle.ranges.proofs.wide.times.Goals as goal
 
 pub returns : goal.returns
 returns c =
-    let f : SFits w32 c.args.a = c.ranges.a in
-    let g : SFits w32 c.args.b = c.ranges.b in
-    let f' : SFits w64 c.args.a = omega (arith, ints) in
-    let g' : SFits w64 c.args.b = omega (arith, ints) in
-    let p : SFits w64 (c.args.a *ℤ c.args.b) = simp to_z-of_z at (signed_product w64 w32 w32 c.args.a c.args.b f g tt) in
-    simp to_z-of_z
+    let p : SFits w64 (c.args.a *ℤ c.args.b) = fits_signed_mul w64 c.args.a c.args.b (2 ^ 31) (2 ^ 31) (omega (arith, ints)) (omega (arith, ints)) (omega arith) in
+    grind (arith, to_z-of_z)
