@@ -40,13 +40,7 @@ impl Guest for Ranges {
     }
 
     fn rest(of: Range) -> i32 {
-        if 0 < of.lo {
-            of.lo
-        } else if of.hi < 0 {
-            of.hi
-        } else {
-            0
-        }
+        0.clamp(of.lo, of.hi)
     }
 
     fn holds(of: Range, value: i32) -> bool {
@@ -58,7 +52,7 @@ impl Guest for Ranges {
     }
 
     fn typed(nodes: &[Node], types: &[Range]) -> Option<Range> {
-        number_pass::<Typing>(nodes, types)?
+        number_pass::<Typing>(nodes, types).flatten()
     }
 
     fn value(nodes: &[Node], row: &[i32]) -> Result<i32, Reason> {
@@ -70,9 +64,9 @@ impl Guest for Ranges {
     }
 
     fn narrow(nodes: &[Node], types: &mut [Range]) -> Narrowing {
-        match truth_pass::<Typing>(nodes, types) {
-            Some(true) => narrow_by::<Trimming>(simple_comparison::<Typing>(nodes), types),
-            _ => Narrowing::NoGuard,
-        }
+        let Some(true) = truth_pass::<Typing>(nodes, types) else {
+            return Narrowing::NoGuard;
+        };
+        narrow_by::<Trimming>(simple_comparison::<Typing>(nodes), types)
     }
 }

@@ -3,7 +3,7 @@ ghost use Rattle.std.specs.Prelude.{◌≡◌};
 ghost use Rattle.intervals.specs.Grammar.{head as head_of};
 ghost use Rattle.intervals.specs.Value.{applied, compared as compared_by, by_value};
 
-use crate::grammar::head;
+use crate::answers::Ranges;
 use guest::Reason;
 use intervals::{Arithmetic, Byte};
 use prefix::{Head, Link, Order, Pass, chosen, joined, negated};
@@ -16,17 +16,10 @@ fn apply(operation: Arithmetic, a: i32, b: i32) -> Result<i32, Reason>
         Arithmetic::Add => a.checked_add(b),
         Arithmetic::Subtract => a.checked_sub(b),
         Arithmetic::Multiply => a.checked_mul(b),
-        Arithmetic::Divide => {
-            if b == 0 {
-                return Err(Reason::DivisorZero);
-            }
-            a.checked_div(b)
-        }
+        Arithmetic::Divide if b == 0 => return Err(Reason::DivisorZero),
+        Arithmetic::Divide => a.checked_div(b),
     };
-    match made {
-        Some(x) => Ok(x),
-        None => Err(Reason::OutsideWord),
-    }
+    made.ok_or(Reason::OutsideWord)
 }
 
 fn compared(order: Order, a: i32, b: i32) -> bool
@@ -60,7 +53,7 @@ impl Pass for Evaluation {
     ghost algebra = { by_value };
 
     fn head(node: Node) -> Option<Head<Byte, Arithmetic>> {
-        head(node)
+        Ranges::head(node)
     }
 
     fn leaf(element: i32) -> Result<i32, Reason> {

@@ -3,11 +3,12 @@ ghost use Rattle.std.specs.Prelude.{◌≡◌};
 ghost use Rattle.prefix.specs.Codes.{looked_up};
 ghost use Rattle.intervals.specs.Grammar.{head as head_of, codes};
 
+use crate::answers::Ranges;
 use intervals::{Arithmetic, Byte};
 use prefix::{Head, Link, Order};
 use tables::Node;
 
-// The codes other than 0 and 1.
+// The codes other than 0 and 1. This is no `TryFrom`: all types in it are of other crates, which bars the impl.
 fn operation(code: u8) -> Option<Head<Byte, Arithmetic>>
     ensures { result ≡ looked_up code codes }
 {
@@ -31,24 +32,16 @@ fn operation(code: u8) -> Option<Head<Byte, Arithmetic>>
     }
 }
 
-pub(crate) fn head(node: Node) -> Option<Head<Byte, Arithmetic>>
-    ensures { result ≡ head_of node }
-{
-    match node.code {
-        0 => {
-            if node.argument < 0 {
-                None
-            } else {
-                Some(Head::Read(node.argument as usize))
-            }
-        }
-        1 => Some(Head::Constant(node.argument)),
-        code => {
-            if node.argument == 0 {
-                operation(code)
-            } else {
-                None
-            }
+impl Ranges {
+    // What a node stands for, or none.
+    pub fn head(node: Node) -> Option<Head<Byte, Arithmetic>>
+        ensures { result ≡ head_of node }
+    {
+        match node.code {
+            0 => usize::try_from(node.argument).ok().map(Head::Read),
+            1 => Some(Head::Constant(node.argument)),
+            code if node.argument == 0 => operation(code),
+            _ => None,
         }
     }
 }

@@ -4,7 +4,7 @@ ghost use Rattle.intervals.specs.Grammar.{head as head_of};
 ghost use Rattle.intervals.specs.Range.{range as range_of};
 ghost use Rattle.intervals.specs.Typing.{least_of, greatest_of, spread as spread_of, hull as hull_of, by_type};
 
-use crate::grammar::head;
+use crate::answers::Ranges;
 use crate::wide::{minus, over, plus, times};
 use intervals::{Arithmetic, Byte, Range};
 use prefix::{Head, Link, Order, Pass};
@@ -16,7 +16,9 @@ fn corners<F: Fn(i32, i32) -> i64>(at: F, r: Range, s: Range) -> Option<Range>
     requires low_high { F.pre at r.lo s.hi }
     requires high_low { F.pre at r.hi s.lo }
     requires high_high { F.pre at r.hi s.hi }
-    ensures { (a b c d : ℤ) × F.post at r.lo s.lo a × F.post at r.lo s.hi b × F.post at r.hi s.lo c × F.post at r.hi s.hi d
+    ensures { (a b c d : ℤ)
+        × F.post at r.lo s.lo a × F.post at r.lo s.hi b
+        × F.post at r.hi s.lo c × F.post at r.hi s.hi d
         × (result ≡ range_of (least_of a b c d) (greatest_of a b c d)) }
 {
     let a = at(r.lo, s.lo);
@@ -26,42 +28,15 @@ fn corners<F: Fn(i32, i32) -> i64>(at: F, r: Range, s: Range) -> Option<Range>
     Range::spanning(a.min(b).min(c.min(d)), a.max(b).max(c.max(d)))
 }
 
-fn sum(r: Range, s: Range) -> Option<Range>
-    ensures { result ≡ spread_of Arithmetic.Add r s }
-{
-    Range::spanning(plus(r.lo, s.lo), plus(r.hi, s.hi))
-}
-
-fn difference(r: Range, s: Range) -> Option<Range>
-    ensures { result ≡ spread_of Arithmetic.Subtract r s }
-{
-    Range::spanning(minus(r.lo, s.hi), minus(r.hi, s.lo))
-}
-
-fn product(r: Range, s: Range) -> Option<Range>
-    ensures { result ≡ spread_of Arithmetic.Multiply r s }
-{
-    corners(times, r, s)
-}
-
-fn quotient(r: Range, s: Range) -> Option<Range>
-    ensures { result ≡ spread_of Arithmetic.Divide r s }
-{
-    if s.holds(0) {
-        None
-    } else {
-        corners(over, r, s)
-    }
-}
-
 fn spread(operation: Arithmetic, r: Range, s: Range) -> Option<Range>
     ensures { result ≡ spread_of operation r s }
 {
     match operation {
-        Arithmetic::Add => sum(r, s),
-        Arithmetic::Subtract => difference(r, s),
-        Arithmetic::Multiply => product(r, s),
-        Arithmetic::Divide => quotient(r, s),
+        Arithmetic::Add => Range::spanning(plus(r.lo, s.lo), plus(r.hi, s.hi)),
+        Arithmetic::Subtract => Range::spanning(minus(r.lo, s.hi), minus(r.hi, s.lo)),
+        Arithmetic::Multiply => corners(times, r, s),
+        Arithmetic::Divide if s.holds(0) => None,
+        Arithmetic::Divide => corners(over, r, s),
     }
 }
 
@@ -90,7 +65,7 @@ impl Pass for Typing {
     ghost algebra = { by_type };
 
     fn head(node: Node) -> Option<Head<Byte, Arithmetic>> {
-        head(node)
+        Ranges::head(node)
     }
 
     fn leaf(element: Range) -> Option<Range> {
