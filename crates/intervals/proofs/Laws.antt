@@ -1,5 +1,5 @@
 -- The range guest keeps the laws of guests.
-use Rattle.std.proofs.Common.{◌≡◌, true, ℤ, Some, None, Ok, Err, Option, Result}
+use Rattle.std.proofs.Common.{◌≡◌, true, ℤ, Some, None, Ok, Err, Option, Result, rules}
 use Rattle.guest.specs.declared.answers.Reason.{Reason}
 use Rattle.guest.specs.Laws.{Laws}
 use Rattle.prefix.specs.declared.grammar.Order.{Order}
@@ -20,7 +20,7 @@ use Rattle.intervals.proofs.Trim.{trim_keeps}
 use Rattle.intervals.proofs.Interval.{spread_good, hull_good, byte_good, constant_good}
 
 no_codes_read : NoneRead codes
-no_codes_read = (tt, (tt, (tt, (tt, (tt, (tt, (tt, (tt, (tt, (tt, (tt, (tt, (tt, (tt, (tt, tt)))))))))))))))
+no_codes_read = search rules
 
 byte_typed : (u : Byte) (p : Option Range) (a : Result ℤ Reason) → Good ranges p a → Good ranges (by_type.unary u p) (by_value.unary u a)
 byte_typed u None a h = tt

@@ -1,6 +1,5 @@
 pub mod Good
 pub mod Codes
-pub mod Order
 pub mod Trim
 pub mod Interval
 pub mod Laws
