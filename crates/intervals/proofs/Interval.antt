@@ -1,5 +1,5 @@
 -- Arithmetic of ranges.
-use Rattle.std.proofs.Common.{◌≡◌, ℕ, zero, suc, ◌*◌, ◌/◌, ◌≤◌, Bool, true, false, cond, ◌⊎◌, ℤ, pos, negsuc, ◌+ℤ◌, ◌-ℤ◌, ◌*ℤ◌, ◌≤ℤ◌, ◌<ℤ◌, None, Ok, refl, mul-le-mul_right, div-mul-le_self, arith}
+use Rattle.std.proofs.Common.{◌≡◌, ℕ, zero, suc, ◌*◌, ◌/◌, ◌≤◌, Bool, true, false, cond, ◌⊎◌, ℤ, pos, negsuc, ◌*ℤ◌, ◌≤ℤ◌, ◌<ℤ◌, None, Ok, refl, mul-le-mul_right, div-mul-le_self, arith}
 use lib.IntN.{*ℤ_comm}
 use lib.Signed.{quot_z}
 use Rattle.std.specs.Int.{int_min, int_max, int_rem_euclid}
