@@ -1,5 +1,5 @@
 -- Which values an expression reads. The bench knows it of every guest: they are the arguments of its nodes of code 0.
-use Rattle.std.specs.Prelude.{◌≡◌, ℕ, cond, ◌⊎◌, List, [], ◌∷◌, ◌++◌, ℤ, pos, negsuc, ◌==◌}
+use Rattle.std.specs.Prelude.{◌≡◌, ℕ, if◌then◌else◌, ◌⊎◌, List, [], ◌∷◌, ◌++◌, ℤ, pos, negsuc, ◌==◌}
 use Rattle.std.specs.List.{slice_get}
 use Rattle.tables.specs.declared.Node.{Node}
 
@@ -14,7 +14,7 @@ named (pos n) = n ∷ []
 named (negsuc n) = []
 
 abbrev pub read_by : Node → List ℕ
-read_by node = cond (node.code == 0) (named node.argument) []
+read_by node = if node.code == 0 then named node.argument else []
 
 abbrev pub reads : List Node → List ℕ
 reads [] = []

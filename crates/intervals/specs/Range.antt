@@ -1,5 +1,5 @@
 -- Ranges: what they hold, and how they come from codes.
-use Rattle.std.specs.Prelude.{◌≡◌, Bool, true, false, cond, ◌&&◌, ℤ, pos, negsuc, Some, None, Option, int_le, int_lt, refl}
+use Rattle.std.specs.Prelude.{◌≡◌, Bool, true, false, if◌then◌else◌, ◌&&◌, ℤ, pos, negsuc, Some, None, Option, int_le, int_lt, refl}
 use Rattle.intervals.specs.declared.range.Range.{Range}
 use Rattle.intervals.specs.Word.{proper}
 
@@ -13,7 +13,7 @@ range lo hi = range_if lo hi (proper lo hi) refl
 
 -- the type that a value's codes name: a declared range lies in -32,768..32,767
 abbrev pub declared_by : ℤ → ℤ → Option Range
-declared_by a b = cond (int_le (negsuc 32767) a && int_le b (pos 32767)) (range a b) None
+declared_by a b = if int_le (negsuc 32767) a && int_le b (pos 32767) then range a b else None
 
 abbrev pub held : Range → ℤ → Bool
 held r z = int_le r.lo z && int_le z r.hi
@@ -24,8 +24,8 @@ inside r s = int_le s.lo r.lo && int_le r.hi s.hi
 
 -- the number of a range that is nearest 0
 abbrev pub nearest : Range → ℤ
-nearest r = cond (int_lt (pos 0) r.lo) r.lo (cond (int_lt r.hi (pos 0)) r.hi (pos 0))
+nearest r = if int_lt (pos 0) r.lo then r.lo else (if int_lt r.hi (pos 0) then r.hi else pos 0)
 
 -- a value's code is the value; a code that is not held is unreadable
 abbrev pub decoded : Range → ℤ → Option ℤ
-decoded r code = cond (held r code) (Some code) None
+decoded r code = if held r code then Some code else None

@@ -1,5 +1,5 @@
 -- What each part of an expression has under types: a number its range, if it has one; a truth, whether all its parts have one.
-use Rattle.std.specs.Prelude.{Bool, cond, ◌&&◌, ℤ, pos, ◌+ℤ◌, ◌-ℤ◌, ◌*ℤ◌, Some, None, Option, int_div}
+use Rattle.std.specs.Prelude.{Bool, if◌then◌else◌, ◌&&◌, ℤ, pos, ◌+ℤ◌, ◌-ℤ◌, ◌*ℤ◌, Some, None, Option, int_div}
 use Rattle.std.specs.Int.{int_min, int_max}
 use Rattle.prefix.specs.Outcome.{with_both, choice_type, both_typed}
 use Rattle.prefix.specs.Pass.{Algebra}
@@ -26,7 +26,7 @@ abbrev pub spread : Arithmetic → Range → Range → Option Range
 spread Add r s = range (r.lo +ℤ s.lo) (r.hi +ℤ s.hi)
 spread Subtract r s = range (r.lo -ℤ s.hi) (r.hi -ℤ s.lo)
 spread Multiply r s = corners (λ x y. x *ℤ y) r s
-spread Divide r s = cond (held s (pos 0)) None (corners int_div r s)
+spread Divide r s = if held s (pos 0) then None else corners int_div r s
 
 -- from the lesser lo to the greater hi
 abbrev pub hull : Range → Range → Option Range

@@ -1,5 +1,5 @@
 -- What each part of an expression gives on values: a number or a truth, or a reason.
-use Rattle.std.specs.Prelude.{Bool, cond, ◌&&◌, ℤ, pos, ◌+ℤ◌, ◌-ℤ◌, ◌*ℤ◌, Ok, Err, Result, int_div, int_le, int_lt}
+use Rattle.std.specs.Prelude.{Bool, if◌then◌else◌, ◌&&◌, ℤ, pos, ◌+ℤ◌, ◌-ℤ◌, ◌*ℤ◌, Ok, Err, Result, int_div, int_le, int_lt}
 use Rattle.std.proofs.Math.Bool as Bools
 use Rattle.std.specs.Int.{int_rem_euclid}
 use Rattle.guest.specs.declared.answers.Reason.{Reason}
@@ -16,14 +16,14 @@ use Rattle.intervals.specs.Word.{in_word}
 
 -- a number, where it is in the word range
 abbrev pub word : ℤ → Result ℤ Reason
-word z = cond (in_word z) (Ok z) (Err OutsideWord)
+word z = if in_word z then Ok z else Err OutsideWord
 
 -- division drops the fraction toward 0
 abbrev pub applied : Arithmetic → ℤ → ℤ → Result ℤ Reason
 applied Add a b = word (a +ℤ b)
 applied Subtract a b = word (a -ℤ b)
 applied Multiply a b = word (a *ℤ b)
-applied Divide a b = cond (is_zero b) (Err DivisorZero) (word (int_div a b))
+applied Divide a b = if is_zero b then Err DivisorZero else word (int_div a b)
 
 abbrev pub same : ℤ → ℤ → Bool
 same a b = int_le a b && int_le b a

@@ -1,5 +1,5 @@
 -- How nodes in prefix order are read as a tree. A language's grammar says what each node stands for, if anything.
-use Rattle.std.specs.Prelude.{ℕ, zero, suc, cond, List, [], ◌∷◌, length, Some, None, Option, nat_lt}
+use Rattle.std.specs.Prelude.{ℕ, zero, suc, if◌then◌else◌, List, [], ◌∷◌, length, Some, None, Option, nat_lt}
 use Rattle.tables.specs.declared.Node.{Node}
 use Rattle.prefix.specs.declared.grammar.Head.{Head}
 use Rattle.prefix.specs.declared.grammar.Head.TheVariants.{Read, Constant, Unary, Binary, Choose, Compare, Not, Join}
@@ -8,7 +8,7 @@ use Rattle.prefix.specs.Tree.{Number, Truth, read, constant, unary, binary, choo
 -- a read beyond a row of w values stands for nothing
 abbrev pub placed : {U B : Type 0} → ℕ → Option (Head U B) → Option (Head U B)
 placed w None = None
-placed w (Some (Read i)) = cond (nat_lt i w) (Some (Read i)) None
+placed w (Some (Read i)) = if nat_lt i w then Some (Read i) else None
 placed w (Some (Constant z)) = Some (Constant z)
 placed w (Some (Unary u)) = Some (Unary u)
 placed w (Some (Binary b)) = Some (Binary b)
