@@ -27,7 +27,7 @@ static MADE: [(i32, i32, bool); 16] = [
 #[test]
 fn made_ranges(rt: HostRuntime) {
     for &(a, b, named) in &MADE {
-        let expected = if named { Some((a, b)) } else { None };
+        let expected = named.then_some((a, b));
         assert_eq!(rt; ends(Ranges::make(a, b)), expected, "make {a} {b}");
     }
 }
@@ -60,7 +60,7 @@ fn held_numbers(rt: HostRuntime) -> Result<(), Fail> {
     for &(lo, hi, number, holds) in &HELD {
         let range = span(lo, hi)?;
         assert_eq!(rt; Ranges::holds(range, number), holds, "{}", number);
-        let expected = if holds { Some(number) } else { None };
+        let expected = holds.then_some(number);
         assert_eq!(rt; Ranges::decode(range, number), expected, "{}", number);
         assert_eq!(rt; Ranges::encode(number), number);
     }

@@ -1,22 +1,23 @@
 // What a guard's yes leaves of a row of ranges.
 use crate::nodes::*;
-use guest::{Guest, Narrowing};
+use guest::{Guest, NarrowRefusal};
 use ranges::Ranges;
 use std::test::Fail;
 use tables::Node;
 
-// Narrows three values of one range by a guard. The second then has the range `after`, and the others are as they were.
-fn leaves(nodes: &[Node], before: Ends, expected: Narrowing, after: Ends) -> Result<(), Fail> {
+// Narrows three values of one range by a guard. The second then has the range that is left, or is as it was where the
+// guard is refused, and the others are as they were.
+fn leaves(nodes: &[Node], before: Ends, left: Result<Ends, NarrowRefusal>) -> Result<(), Fail> {
     let guard = Expression(nodes);
     let mut types = [span(before.0, before.1)?; 3];
     let (lo, hi) = before;
     check_eq(
         &Ranges::narrow(nodes, &mut types),
-        &expected,
+        &left.map(|_| ()),
         &format_args!("{guard} on {lo} to {hi}"),
     )?;
     check_eq(&ends(Some(types[0])), &Some(before), &guard)?;
-    check_eq(&ends(Some(types[1])), &Some(after), &guard)?;
+    check_eq(&ends(Some(types[1])), &Some(left.unwrap_or(before)), &guard)?;
     check_eq(&ends(Some(types[2])), &Some(before), &guard)
 }
 
@@ -122,13 +123,10 @@ static CUTS: [(Node, i32, Ends, Option<Ends>); 92] = [
 fn comparisons_with_a_constant() -> Result<(), Fail> {
     for &(order, constant, before, after) in &CUTS {
         let nodes = [order, SECOND, num(constant)];
-        match after {
-            Some(after) => leaves(&nodes, before, Narrowing::Narrowed, after)?,
-            None => leaves(&nodes, before, Narrowing::Never, before)?,
-        }
+        leaves(&nodes, before, after.ok_or(NarrowRefusal::Never))?;
         // a constant on the left does not narrow
         let turned = [order, num(constant), SECOND];
-        leaves(&turned, before, Narrowing::Narrowed, before)?;
+        leaves(&turned, before, Ok(before))?;
     }
     Ok(())
 }
@@ -225,10 +223,10 @@ static NO_GUARDS: [&[Node]; 24] = [
 #[test]
 fn other_guards_and_no_guards() -> Result<(), Fail> {
     for &nodes in &OTHER_GUARDS {
-        leaves(nodes, (1, 8), Narrowing::Narrowed, (1, 8))?;
+        leaves(nodes, (1, 8), Ok((1, 8)))?;
     }
     for &nodes in &NO_GUARDS {
-        leaves(nodes, (1, 8), Narrowing::NoGuard, (1, 8))?;
+        leaves(nodes, (1, 8), Err(NarrowRefusal::NoGuard))?;
     }
     Ok(())
 }
@@ -237,24 +235,15 @@ fn other_guards_and_no_guards() -> Result<(), Fail> {
 #[test]
 fn only_the_value_that_is_read(rt: HostRuntime) -> Result<(), Fail> {
     let mut types = [span(5, 6)?, span(1, 8)?, span(-1, 1)?];
-    assert_eq!(rt;
-        Ranges::narrow(&[LT, FIRST, num(6)], &mut types),
-        Narrowing::Narrowed
-    );
-    assert_eq!(rt;
-        Ranges::narrow(&[GT, THIRD, ZERO], &mut types),
-        Narrowing::Narrowed
-    );
+    assert_eq!(rt; Ranges::narrow(&[LT, FIRST, num(6)], &mut types), Ok(()));
+    assert_eq!(rt; Ranges::narrow(&[GT, THIRD, ZERO], &mut types), Ok(()));
     assert_eq!(rt; ends(Some(types[0])), Some((5, 5)));
     assert_eq!(rt; ends(Some(types[1])), Some((1, 8)));
     assert_eq!(rt; ends(Some(types[2])), Some((1, 1)));
-    assert_eq!(rt;
-        Ranges::narrow(&[LT, ONE, TWO], &mut []),
-        Narrowing::Narrowed
-    );
+    assert_eq!(rt; Ranges::narrow(&[LT, ONE, TWO], &mut []), Ok(()));
     assert_eq!(rt;
         Ranges::narrow(&[LT, FIRST, TWO], &mut []),
-        Narrowing::NoGuard
+        Err(NarrowRefusal::NoGuard)
     );
     Ok(())
 }

@@ -164,20 +164,15 @@ pub(crate) type Ends = (i32, i32);
 // The range from `lo` to `hi`, which may be as wide as the word range.
 pub(crate) fn span(lo: i32, hi: i32) -> Result<Range, Fail> {
     let either = [IF, EQ, ZERO, ZERO, num(lo), num(hi)];
-    match Ranges::typed(&either, &[]) {
-        Some(range) => {
-            check_eq(&(range.lo, range.hi), &(lo, hi), &Expression(&either))?;
-            Ok(range)
-        }
-        None => Err(Fail::new("no range")),
-    }
+    let Some(range) = Ranges::typed(&either, &[]) else {
+        return Err(Fail::new("no range"));
+    };
+    check_eq(&(range.lo, range.hi), &(lo, hi), &Expression(&either))?;
+    Ok(range)
 }
 
 pub(crate) fn ends(of: Option<Range>) -> Option<Ends> {
-    match of {
-        Some(range) => Some((range.lo, range.hi)),
-        None => None,
-    }
+    of.map(|range| (range.lo, range.hi))
 }
 
 // An expression, shown as the code and the argument of each node.

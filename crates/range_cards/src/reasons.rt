@@ -1,5 +1,5 @@
 // Reasons and narrowings by their numbers, and reasons in words.
-use guest::{Narrowing, Reason};
+use guest::{NarrowRefusal, Reason, narrowing_number};
 use std::test::Fail;
 
 #[test]
@@ -18,9 +18,9 @@ fn numbers_and_words(rt: HostRuntime) -> Result<(), Fail> {
     );
     assert_eq!(rt;
         (
-            Narrowing::Narrowed.number(),
-            Narrowing::NoGuard.number(),
-            Narrowing::Never.number(),
+            narrowing_number(Ok(())),
+            NarrowRefusal::NoGuard.number(),
+            NarrowRefusal::Never.number(),
         ),
         (0, 7, 9)
     );

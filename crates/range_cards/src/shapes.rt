@@ -1,6 +1,6 @@
 // Nodes that are no range expression of the wanted sort, and expressions of many nodes.
 use crate::nodes::*;
-use guest::{Guest, Narrowing, Reason};
+use guest::{Guest, NarrowRefusal, Reason};
 use ranges::Ranges;
 use std::test::Fail;
 use tables::Node;
@@ -28,7 +28,7 @@ fn no_truth(nodes: &[Node]) -> Result<(), Fail> {
     let mut types = [span(1, 9)?, span(-9, -1)?];
     check_eq(
         &Ranges::narrow(nodes, &mut types),
-        &Narrowing::NoGuard,
+        &Err(NarrowRefusal::NoGuard),
         &asked,
     )?;
     check_eq(&ends(Some(types[0])), &Some((1, 9)), &asked)?;
@@ -259,7 +259,7 @@ fn many_nots(rt: HostRuntime) -> Result<(), Fail> {
     odd[43] = ZERO;
     truth(&odd, false)?;
     let mut types = [span(1, 9)?, span(-9, 9)?];
-    assert_eq!(rt; Ranges::narrow(&odd, &mut types), Narrowing::Narrowed);
+    assert_eq!(rt; Ranges::narrow(&odd, &mut types), Ok(()));
     assert_eq!(rt; ends(Some(types[1])), Some((-9, 9)));
     no_expressions(&[&[NOT; 33]])
 }

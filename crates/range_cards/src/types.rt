@@ -1,6 +1,6 @@
 // The ranges of range expressions, at the ends of the word range and where there is none.
 use crate::nodes::*;
-use guest::{Guest, Narrowing};
+use guest::Guest;
 use ranges::Ranges;
 use std::test::Fail;
 use tables::Node;
@@ -244,10 +244,7 @@ fn next_gear(rt: HostRuntime) -> Result<(), Fail> {
     let mut types = [span(1, 3)?];
     let next = [ADD, FIRST, ONE];
     assert_eq!(rt; ends(Ranges::typed(&next, &types)), Some((2, 4)));
-    assert_eq!(rt;
-        Ranges::narrow(&[LT, FIRST, THREE], &mut types),
-        Narrowing::Narrowed
-    );
+    assert_eq!(rt; Ranges::narrow(&[LT, FIRST, THREE], &mut types), Ok(()));
     assert_eq!(rt; ends(Ranges::typed(&next, &types)), Some((2, 3)));
     Ok(())
 }

@@ -6,7 +6,7 @@ ghost use Rattle.intervals.proofs.Laws.{range_laws};
 use crate::evaluation::Evaluation;
 use crate::trimming::Trimming;
 use crate::typing::Typing;
-use guest::{Guest, Narrowing, Reason};
+use guest::{Guest, NarrowRefusal, Reason};
 use intervals::Range;
 use prefix::{narrow_by, number_pass, simple_comparison, truth_pass};
 use tables::Node;
@@ -63,9 +63,9 @@ impl Guest for Ranges {
         truth_pass::<Evaluation>(nodes, row).unwrap_or(Err(Reason::BadShape))
     }
 
-    fn narrow(nodes: &[Node], types: &mut [Range]) -> Narrowing {
+    fn narrow(nodes: &[Node], types: &mut [Range]) -> Result<(), NarrowRefusal> {
         let Some(true) = truth_pass::<Typing>(nodes, types) else {
-            return Narrowing::NoGuard;
+            return Err(NarrowRefusal::NoGuard);
         };
         narrow_by::<Trimming>(simple_comparison::<Typing>(nodes), types)
     }
