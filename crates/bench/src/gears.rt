@@ -1,5 +1,5 @@
 // Types: what gear + 1 has under gear 1..3, without a guard and after one.
-use guest::{Guest, Narrowing};
+use guest::Guest;
 use ranges::{Range, Ranges};
 use std::{fmt, io};
 use tables::Node;
@@ -25,11 +25,7 @@ struct Has(Option<Range>);
 impl fmt::Display for Has {
     fn fmt<W: fmt::Write>(&self, f: &mut fmt::Formatter<W>) -> fmt::Result {
         match self.0 {
-            Some(range) => {
-                let lo = range.lo;
-                let hi = range.hi;
-                write!(f, "{lo}..{hi}")
-            }
+            Some(range) => write!(f, "{range}"),
             None => f.write_str("no type"),
         }
     }
@@ -41,16 +37,14 @@ fn show_next(rt: &HostRuntime, when: &str, gear: Range) -> io::Result<()> {
         argument: 1,
     };
     let next = Has(Ranges::typed(&[op(2), GEAR, one], &[gear]));
-    let gear = Has(Some(gear));
     println!(rt; "  {when}: gear has {gear}, gear + 1 has {next}")
 }
 
 fn show_guarded(rt: &HostRuntime, when: &str, guard: &[Node], gear: Range) -> io::Result<()> {
     let mut types = [gear];
     match Ranges::narrow(guard, &mut types) {
-        Narrowing::Narrowed => show_next(rt, when, types[0]),
-        Narrowing::NoGuard => println!(rt; "  {when}: no guard"),
-        Narrowing::Never => println!(rt; "  {when}: never yes"),
+        Ok(()) => show_next(rt, when, types[0]),
+        Err(why) => println!(rt; "  {when}: {why}"),
     }
 }
 

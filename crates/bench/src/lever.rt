@@ -1,7 +1,8 @@
 // The lever as a signed number and by byte. Reverse is -1 on the bus and 255 as an unsigned byte, and the two compare
 // differently: every position of a signed byte goes through a guard and a right side of the sheet, both ways.
 use guest::{Guest, Reason};
-use ranges::Ranges;
+use prefix::Head;
+use ranges::{Byte, Ranges};
 use sheet::{Action, Sheet};
 use std::alloc::{AllocError, Global};
 use std::{fmt, io};
@@ -24,40 +25,31 @@ const BYTE: Node = Node {
 
 // The nodes of a guard of the sheet.
 fn guard_nodes(sheet: &Sheet, guard: usize) -> &[Node] {
-    let guards = sheet.guards();
-    if guard >= guards.len() {
-        return &[];
+    match sheet.guards().get(guard) {
+        Some(guard) => guard.nodes.part(sheet.nodes()),
+        None => &[],
     }
-    let first = guards[guard].nodes.first as usize;
-    let end = first + guards[guard].nodes.count as usize;
-    &sheet.nodes()[first..end]
 }
 
 // The nodes of the right side of an action of the sheet; none for one that emits.
 fn right_nodes(sheet: &Sheet, action: usize) -> &[Node] {
-    let actions = sheet.actions();
-    if action >= actions.len() {
-        return &[];
-    }
-    match actions[action] {
-        Action::Emit { event: _ } => &[],
-        Action::Assign { value: _, nodes } => {
-            let first = nodes.first as usize;
-            let end = first + nodes.count as usize;
-            &sheet.nodes()[first..end]
-        }
+    match sheet.actions().get(action) {
+        Some(Action::Assign { nodes, .. }) => nodes.part(sheet.nodes()),
+        _ => &[],
     }
 }
 
-// An expression with every value read as a signed number, or with every value read by its byte.
-fn read_by(heap: Global, nodes: &[Node], byte: bool) -> Result<Vec<Node>, AllocError> {
+// An expression without its byte nodes, and with these nodes before every read.
+fn read_after(heap: Global, before: &[Node], nodes: &[Node]) -> Result<Vec<Node>, AllocError> {
     let mut all = Vec::new(heap);
     for node in nodes {
-        if byte && node.code == 0 {
-            all.push(BYTE)?;
-        }
-        if node.code != BYTE.code {
-            all.push(*node)?;
+        match Ranges::head(*node) {
+            Some(Head::Unary(Byte)) => {}
+            Some(Head::Read(_)) => {
+                all.extend_from_slice(before)?;
+                all.push(*node)?;
+            }
+            _ => all.push(*node)?,
         }
     }
     Ok(all)
@@ -85,17 +77,19 @@ impl fmt::Display for Given {
     }
 }
 
-// An expression both ways.
+// An expression both ways: with every value read as a signed number, and with every value read by its byte.
 #[derive(Drop)]
 struct Ways {
     signed: Vec<Node>,
     byte: Vec<Node>,
 }
 
-fn both_ways(heap: Global, nodes: &[Node]) -> Result<Ways, AllocError> {
-    let signed = read_by(heap, nodes, false)?;
-    let byte = read_by(heap, nodes, true)?;
-    Ok(Ways { signed, byte })
+impl Ways {
+    fn of(heap: Global, nodes: &[Node]) -> Result<Ways, AllocError> {
+        let signed = read_after(heap, &[], nodes)?;
+        let byte = read_after(heap, &[BYTE], nodes)?;
+        Ok(Ways { signed, byte })
+    }
 }
 
 // Prints what a position gives, and says whether the guards and the right sides disagree.
@@ -124,16 +118,16 @@ fn show_position(
 }
 
 pub fn show_lever(rt: &HostRuntime, sheet: &Sheet) -> anyhow::Result<()> {
-    let guard = both_ways(rt.alloc(), guard_nodes(sheet, INTO_REVERSE))?;
-    let right = both_ways(rt.alloc(), right_nodes(sheet, TELL_BUS))?;
+    let guard = Ways::of(rt.alloc(), guard_nodes(sheet, INTO_REVERSE))?;
+    let right = Ways::of(rt.alloc(), right_nodes(sheet, TELL_BUS))?;
     println!(rt; "the lever as a signed number and by byte")?;
     println!(rt; "  lever  less lever 0  less byte lever 0  gear, byte gear")?;
     let mut apart = 0u32;
     let mut differ = 0u32;
     for position in -128..128 {
         let (a, d) = show_position(rt, &guard, &right, position)?;
-        apart = apart.saturating_add(a as u32);
-        differ = differ.saturating_add(d as u32);
+        apart = apart.saturating_add(u32::from(a));
+        differ = differ.saturating_add(u32::from(d));
     }
     println!(rt;
         "  of 256 positions the guards disagree at {apart} and the right sides at {differ}"

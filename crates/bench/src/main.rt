@@ -17,7 +17,7 @@ fn run(rt: &HostRuntime) -> anyhow::Result<()> {
         return Ok(());
     }
     println!(rt; "the shuttle's sheet is loaded")?;
-    show::show_sheet(rt, &sheet, &shuttle::called())?;
+    show::show_sheet(rt, &sheet, shuttle::called())?;
     broken::show_refusals(rt, &mut sheet)?;
     println!(rt; "the shuttle's sheet as it is now")?;
     show::show_sizes(rt, &sheet)?;

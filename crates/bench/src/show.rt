@@ -1,6 +1,8 @@
 // Prints a loaded sheet, table by table.
+use prefix::Head;
+use ranges::Ranges;
 use samples::shuttle::Names;
-use sheet::{Action, EventKind, Sheet, ValueKind};
+use sheet::{Action, Sheet, ValueKind};
 use std::{fmt, io};
 use tables::{Node, Stretch};
 
@@ -10,8 +12,8 @@ struct Numbers(Stretch);
 
 impl fmt::Display for Numbers {
     fn fmt<W: fmt::Write>(&self, f: &mut fmt::Formatter<W>) -> fmt::Result {
-        let first = self.0.first as u32;
-        let count = self.0.count as u32;
+        let first = u32::from(self.0.first);
+        let count = u32::from(self.0.count);
         match count {
             0 => f.write_str("none"),
             1 => write!(f, "{first}"),
@@ -31,56 +33,6 @@ fn name<'a>(names: &'a [&'a str], number: usize) -> &'a str {
     }
 }
 
-// The word of an operation of the range language.
-fn operation(code: u8) -> &'static str {
-    match code {
-        2 => "add",
-        3 => "subtract",
-        4 => "multiply",
-        5 => "divide",
-        8 => "choose",
-        9 => "byte",
-        16 => "equal",
-        17 => "not-equal",
-        18 => "less",
-        19 => "less-or-equal",
-        20 => "greater",
-        21 => "greater-or-equal",
-        22 => "not",
-        23 => "and",
-        24 => "or",
-        _ => "?",
-    }
-}
-
-fn show_node(rt: &HostRuntime, node: &Node, names: &Names) -> io::Result<()> {
-    match node.code {
-        0 => {
-            let read = match usize::try_from(node.argument) {
-                Ok(value) => name(names.values, value),
-                Err(_) => "?",
-            };
-            print!(rt; " {read}")
-        }
-        1 => {
-            let constant = node.argument;
-            print!(rt; " {constant}")
-        }
-        code => {
-            let word = operation(code);
-            print!(rt; " {word}")
-        }
-    }
-}
-
-// An expression in prefix order.
-fn show_expression(rt: &HostRuntime, nodes: &[Node], names: &Names) -> io::Result<()> {
-    for node in nodes {
-        show_node(rt, node, names)?;
-    }
-    println!(rt; "")
-}
-
 // The kind of a value, a local with its owner's name.
 #[derive(Clone, Copy)]
 struct Role<'a>(ValueKind, &'a [&'a str]);
@@ -92,126 +44,154 @@ impl fmt::Display for Role<'_> {
             ValueKind::Output => f.write_str("output"),
             ValueKind::Shared => f.write_str("shared"),
             ValueKind::Local { owner } => {
-                let automaton = name(self.1, owner as usize);
+                let automaton = name(self.1, usize::from(owner));
                 write!(f, "local of {automaton}")
             }
         }
     }
 }
 
-fn show_values(rt: &HostRuntime, sheet: &Sheet, names: &Names) -> io::Result<()> {
-    println!(rt; "values")?;
-    for (number, value) in sheet.values().iter().enumerate() {
-        let called = name(names.values, number);
-        let role = Role(value.kind, names.automata);
-        let a = value.a;
-        let b = value.b;
-        println!(rt; "  {number:>2} {called:<8} {role}, a {a}, b {b}")?;
-    }
-    Ok(())
+// A sheet and what its records are called, to be printed.
+#[derive(Clone, Copy)]
+struct Shown<'a> {
+    rt: &'a HostRuntime,
+    sheet: &'a Sheet,
+    names: Names<'a>,
 }
 
-fn show_events(rt: &HostRuntime, sheet: &Sheet, names: &Names) -> io::Result<()> {
-    println!(rt; "events")?;
-    for (number, event) in sheet.events().iter().enumerate() {
-        let called = name(names.events, number);
-        let kind = match event {
-            EventKind::Input => "input",
-            EventKind::Output => "output",
-            EventKind::Shared => "shared",
-        };
-        println!(rt; "  {number:>2} {called:<8} {kind}")?;
-    }
-    Ok(())
-}
-
-fn show_automata(rt: &HostRuntime, sheet: &Sheet, names: &Names) -> io::Result<()> {
-    println!(rt; "automata")?;
-    for (number, automaton) in sheet.automata().iter().enumerate() {
-        let called = name(names.automata, number);
-        let states = automaton.states;
-        let initial = automaton.initial;
-        let actions = Numbers(automaton.actions);
-        let transitions = Numbers(automaton.transitions);
-        println!(rt;
-            "  {number:>2} {called:<8} {states} states from {initial}, initial actions {actions}, transitions {transitions}"
-        )?;
-    }
-    Ok(())
-}
-
-fn show_turns(rt: &HostRuntime, sheet: &Sheet, names: &Names) -> io::Result<()> {
-    print!(rt; "turns")?;
-    for turn in sheet.turns() {
-        let called = name(names.automata, *turn as usize);
-        print!(rt; " {called}")?;
-    }
-    println!(rt; "")
-}
-
-fn show_transitions(rt: &HostRuntime, sheet: &Sheet, names: &Names) -> io::Result<()> {
-    println!(rt; "transitions")?;
-    for (number, transition) in sheet.transitions().iter().enumerate() {
-        let source = transition.source;
-        let destination = transition.destination;
-        let trigger = name(names.events, transition.trigger as usize);
-        let urgent = if transition.urgent { ", urgent" } else { "" };
-        let guards = Numbers(transition.guards);
-        let actions = Numbers(transition.actions);
-        println!(rt;
-            "  {number:>2} state {source} to {destination} on {trigger}{urgent}, guards {guards}, actions {actions}"
-        )?;
-    }
-    Ok(())
-}
-
-fn show_guards(rt: &HostRuntime, sheet: &Sheet, names: &Names) -> io::Result<()> {
-    println!(rt; "guards")?;
-    let nodes = sheet.nodes();
-    for (number, guard) in sheet.guards().iter().enumerate() {
-        print!(rt; "  {number:>2}")?;
-        let first = guard.nodes.first as usize;
-        let end = first + guard.nodes.count as usize;
-        show_expression(rt, &nodes[first..end], names)?;
-    }
-    Ok(())
-}
-
-fn show_actions(rt: &HostRuntime, sheet: &Sheet, names: &Names) -> io::Result<()> {
-    println!(rt; "actions")?;
-    let nodes = sheet.nodes();
-    for (number, action) in sheet.actions().iter().enumerate() {
-        match *action {
-            Action::Emit { event } => {
-                let event = name(names.events, event as usize);
-                println!(rt; "  {number:>2} emit {event}")?
+impl Shown<'_> {
+    fn node(&self, node: Node) -> io::Result<()> {
+        let rt = self.rt;
+        match Ranges::head(node) {
+            Some(Head::Read(value)) => {
+                let read = name(self.names.values, value);
+                print!(rt; " {read}")
             }
-            Action::Assign {
-                value,
-                nodes: right,
-            } => {
-                let value = name(names.values, value as usize);
-                print!(rt; "  {number:>2} {value} :=")?;
-                let first = right.first as usize;
-                let end = first + right.count as usize;
-                show_expression(rt, &nodes[first..end], names)?
-            }
+            Some(head) => print!(rt; " {head}"),
+            None => print!(rt; " ?"),
         }
     }
-    Ok(())
+
+    // An expression in prefix order.
+    fn expression(&self, nodes: Stretch) -> io::Result<()> {
+        for node in nodes.part(self.sheet.nodes()) {
+            self.node(*node)?;
+        }
+        println!(self.rt; "")
+    }
+
+    fn values(&self) -> io::Result<()> {
+        let rt = self.rt;
+        println!(rt; "values")?;
+        for (number, value) in self.sheet.values().iter().enumerate() {
+            let called = name(self.names.values, number);
+            let role = Role(value.kind, self.names.automata);
+            let a = value.a;
+            let b = value.b;
+            println!(rt; "  {number:>2} {called:<8} {role}, a {a}, b {b}")?;
+        }
+        Ok(())
+    }
+
+    fn events(&self) -> io::Result<()> {
+        let rt = self.rt;
+        println!(rt; "events")?;
+        for (number, kind) in self.sheet.events().iter().enumerate() {
+            let called = name(self.names.events, number);
+            println!(rt; "  {number:>2} {called:<8} {kind}")?;
+        }
+        Ok(())
+    }
+
+    fn automata(&self) -> io::Result<()> {
+        let rt = self.rt;
+        println!(rt; "automata")?;
+        for (number, automaton) in self.sheet.automata().iter().enumerate() {
+            let called = name(self.names.automata, number);
+            let states = automaton.states;
+            let initial = automaton.initial;
+            let actions = Numbers(automaton.actions);
+            let transitions = Numbers(automaton.transitions);
+            println!(rt;
+                "  {number:>2} {called:<8} {states} states from {initial}, initial actions {actions}, transitions {transitions}"
+            )?;
+        }
+        Ok(())
+    }
+
+    fn turns(&self) -> io::Result<()> {
+        let rt = self.rt;
+        print!(rt; "turns")?;
+        for turn in self.sheet.turns() {
+            let called = name(self.names.automata, usize::from(*turn));
+            print!(rt; " {called}")?;
+        }
+        println!(rt; "")
+    }
+
+    fn transitions(&self) -> io::Result<()> {
+        let rt = self.rt;
+        println!(rt; "transitions")?;
+        for (number, transition) in self.sheet.transitions().iter().enumerate() {
+            let source = transition.source;
+            let destination = transition.destination;
+            let trigger = name(self.names.events, usize::from(transition.trigger));
+            let urgent = if transition.urgent { ", urgent" } else { "" };
+            let guards = Numbers(transition.guards);
+            let actions = Numbers(transition.actions);
+            println!(rt;
+                "  {number:>2} state {source} to {destination} on {trigger}{urgent}, guards {guards}, actions {actions}"
+            )?;
+        }
+        Ok(())
+    }
+
+    fn guards(&self) -> io::Result<()> {
+        let rt = self.rt;
+        println!(rt; "guards")?;
+        for (number, guard) in self.sheet.guards().iter().enumerate() {
+            print!(rt; "  {number:>2}")?;
+            self.expression(guard.nodes)?;
+        }
+        Ok(())
+    }
+
+    fn actions(&self) -> io::Result<()> {
+        let rt = self.rt;
+        println!(rt; "actions")?;
+        for (number, action) in self.sheet.actions().iter().enumerate() {
+            match *action {
+                Action::Emit { event } => {
+                    let event = name(self.names.events, usize::from(event));
+                    println!(rt; "  {number:>2} emit {event}")?
+                }
+                Action::Assign { value, nodes } => {
+                    let value = name(self.names.values, usize::from(value));
+                    print!(rt; "  {number:>2} {value} :=")?;
+                    self.expression(nodes)?
+                }
+            }
+        }
+        Ok(())
+    }
+
+    fn all(&self) -> io::Result<()> {
+        self.values()?;
+        self.events()?;
+        self.automata()?;
+        self.turns()?;
+        self.transitions()?;
+        self.guards()?;
+        self.actions()?;
+        let rt = self.rt;
+        let nodes = self.sheet.nodes().len();
+        println!(rt; "nodes")?;
+        println!(rt; "  {nodes}, shown above in the guards and actions")
+    }
 }
 
-pub fn show_sheet(rt: &HostRuntime, sheet: &Sheet, names: &Names) -> io::Result<()> {
-    show_values(rt, sheet, names)?;
-    show_events(rt, sheet, names)?;
-    show_automata(rt, sheet, names)?;
-    show_turns(rt, sheet, names)?;
-    show_transitions(rt, sheet, names)?;
-    show_guards(rt, sheet, names)?;
-    show_actions(rt, sheet, names)?;
-    let nodes = sheet.nodes().len();
-    println!(rt; "nodes")?;
-    println!(rt; "  {nodes}, shown above in the guards and actions")
+pub fn show_sheet(rt: &HostRuntime, sheet: &Sheet, names: Names) -> io::Result<()> {
+    Shown { rt, sheet, names }.all()
 }
 
 pub fn show_sizes(rt: &HostRuntime, sheet: &Sheet) -> io::Result<()> {
