@@ -101,7 +101,8 @@ pub fn nothing() -> Tables<'static> {
     }
 }
 
-// The number that a judgement answers: 0 where it is fine.
+// The number that a judgement answers: 0 where it is fine, as in the definition `answer`. The tests' cases are written
+// with these numbers.
 pub fn number(tables: &Tables) -> u8 {
     match judge(tables) {
         Ok(()) => 0,

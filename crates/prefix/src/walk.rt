@@ -95,7 +95,8 @@ impl<P: Pass> Walk<'_, P> {
     }
 }
 
-// What a number gives over a row, or none for a bad shape.
+// What a number gives over a row, or none for a bad shape. It and `truth_pass` differ in the method that they call; one
+// function for both would be handed that method, with a longer contract than the two bodies have lines.
 pub fn number_pass<P: Pass>(nodes: &[Node], row: &[P::Element]) -> Option<P::Number>
     ensures answer { result ≡ number_pass P.Pass.grammar P.Pass.algebra nodes.now row.now }
     ensures shape { GivesNumber P.Pass.grammar P.Pass.algebra nodes.now row.now result }

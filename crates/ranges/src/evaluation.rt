@@ -9,6 +9,7 @@ use intervals::{Arithmetic, Byte};
 use prefix::{Head, Link, Order, Pass, chosen, joined, negated};
 use tables::Node;
 
+// The operation is read from a node, so it is a value to match on; a closure in its place would come from the same match.
 fn apply(operation: Arithmetic, a: i32, b: i32) -> Result<i32, Reason>
     ensures { result ≡ applied operation a b }
 {

@@ -10,7 +10,8 @@ use tables::{
     ActionRow, Automaton, EventRow, Guard, Node, Stretch, Tables, TransitionRow, ValueRow,
 };
 
-// What the records of a sheet are called, in the order of their tables. A sheet itself has numbers alone.
+// What the records of a sheet are called, in the order of their tables. The names stand beside the tables, not in them:
+// a sheet is lent as slices of records that have numbers alone.
 #[derive(Clone, Copy)]
 pub struct Names<'a> {
     pub values: &'a [&'a str],

@@ -1,9 +1,11 @@
 // The tables that a caller lends to `load`. Every field is a whole number and may hold anything:
-// nothing is known of a lent table until it has been judged.
+// nothing is known of a lent table until it has been judged. The fields stay numbers, kinds among them: sheets are lent
+// as tables of whole numbers. `records.rt` has what the numbers stand for.
 ghost use Rattle.std.specs.Prelude.{◌≡◌};
 ghost use Rattle.tables.specs.Tables.{lent, sizes as sizes_of};
 
-// A stretch of a table: `count` records from number `first` on.
+// A stretch of a table: `count` records from number `first` on. It stays two numbers, and no list of its own: sheets are
+// lent and handed out table by table, and records may share a stretch.
 #[derive(Clone, Copy, PartialEq, Eq, Debug)]
 pub struct Stretch {
     pub first: u16,
@@ -37,7 +39,8 @@ pub struct Automaton {
     pub transitions: Stretch,
 }
 
-// A transition from state `source` to state `destination` on the event `trigger`. Urgent is 1 or 0.
+// A transition from state `source` to state `destination` on the event `trigger`. Urgent is 1 or 0. The loaded
+// `Transition` has another type in that field alone; one record generic in it would be named by neither meaning.
 #[derive(Clone, Copy, PartialEq, Eq, Debug)]
 pub struct TransitionRow {
     pub source: u16,

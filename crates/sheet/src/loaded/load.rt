@@ -1,4 +1,5 @@
-// Loading: the lent tables are judged first, then copied, and the sheet changes last.
+// Loading: the lent tables are judged first, then copied, and the sheet changes last. The allocator is a parameter of its
+// own, beside the tables, as in every call of the library that allocates.
 ghost use Rattle.std.specs.Prelude.{◌≡◌, IfOk};
 ghost use Rattle.tables.specs.Tables.{lent};
 ghost use Rattle.tables.specs.Allowed.{Allowed};
