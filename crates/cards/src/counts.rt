@@ -1,30 +1,43 @@
 // Each table at the most records that it may have, and at one more.
 use crate::base::*;
+use std::alloc::{AllocError, Global};
 use std::test::Fail;
 use tables::{Automaton, LoadRefusal, Table, judge};
 
-fn too_many(table: Table) -> Result<(), LoadRefusal> {
-    Err(LoadRefusal::TooMany { table })
+// What is answered on a table of so many copies of a record, and on one of one copy more.
+fn at_most<R: Copy, F: Fn(&[R]) -> Result<(), LoadRefusal>>(
+    heap: Global,
+    one: R,
+    most: usize,
+    answer: F,
+) -> Result<[Result<(), LoadRefusal>; 2], AllocError>
+    requires { F.IsAlwaysCallable answer }
+{
+    let mut rows = vec![in heap; one; most]?;
+    let full = answer(&rows);
+    rows.push(one)?;
+    Ok([full, answer(&rows)])
+}
+
+fn too_many(table: Table) -> [Result<(), LoadRefusal>; 2] {
+    [Ok(()), Err(LoadRefusal::TooMany { table })]
 }
 
 #[test]
-fn most_values(rt: HostRuntime) {
-    assert_eq!(rt; judge(&base().with(&[VALUES[1]; 128])), Ok(()));
-    assert_eq!(rt;
-        judge(&base().with(&[VALUES[1]; 129])),
-        too_many(Table::Values)
-    );
+fn most_values(rt: HostRuntime) -> Result<(), Fail> {
+    let answers = at_most(rt.alloc(), VALUES[1], 128, |rows| judge(&base().with(rows)))?;
+    assert_eq!(rt; answers, too_many(Table::Values));
+    Ok(())
 }
 
 #[test]
-fn most_events(rt: HostRuntime) {
-    assert_eq!(rt; judge(&base().with(&[EVENTS[1]; 64])), Ok(()));
-    assert_eq!(rt;
-        judge(&base().with(&[EVENTS[1]; 65])),
-        too_many(Table::Events)
-    );
+fn most_events(rt: HostRuntime) -> Result<(), Fail> {
+    let answers = at_most(rt.alloc(), EVENTS[1], 64, |rows| judge(&base().with(rows)))?;
+    assert_eq!(rt; answers, too_many(Table::Events));
+    Ok(())
 }
 
+// Each automaton has a turn here too.
 #[test]
 fn most_automata(rt: HostRuntime) -> Result<(), Fail> {
     let one = Automaton {
@@ -34,47 +47,52 @@ fn most_automata(rt: HostRuntime) -> Result<(), Fail> {
         transitions: NONE,
     };
     let turns: Vec<u16> = (0..32).collect(rt.alloc())?;
-    assert_eq!(rt; judge(&base().with(&[one; 32]).with_turns(&turns)), Ok(()));
+    let full = judge(&base().with(&[one; 32]).with_turns(&turns));
     let turns: Vec<u16> = (0..33).collect(rt.alloc())?;
-    assert_eq!(rt;
-        judge(&base().with(&[one; 33]).with_turns(&turns)),
-        too_many(Table::Automata)
-    );
+    let answers = [full, judge(&base().with(&[one; 33]).with_turns(&turns))];
+    assert_eq!(rt; answers, too_many(Table::Automata));
     Ok(())
 }
 
 #[test]
-fn most_transitions(rt: HostRuntime) {
-    assert_eq!(rt; judge(&base().with(&[TRANSITIONS[0]; 512])), Ok(()));
-    assert_eq!(rt;
-        judge(&base().with(&[TRANSITIONS[0]; 513])),
-        too_many(Table::Transitions)
-    );
+fn most_transitions(rt: HostRuntime) -> Result<(), Fail> {
+    let answers = at_most(
+        rt.alloc(),
+        TRANSITIONS[0],
+        512,
+        |rows| judge(&base().with(rows)),
+    )?;
+    assert_eq!(rt; answers, too_many(Table::Transitions));
+    Ok(())
 }
 
 #[test]
-fn most_guards(rt: HostRuntime) {
-    assert_eq!(rt; judge(&base().with(&[GUARDS[0]; 1024])), Ok(()));
-    assert_eq!(rt;
-        judge(&base().with(&[GUARDS[0]; 1025])),
-        too_many(Table::Guards)
-    );
+fn most_guards(rt: HostRuntime) -> Result<(), Fail> {
+    let answers = at_most(
+        rt.alloc(),
+        GUARDS[0],
+        1024,
+        |rows| judge(&base().with(rows)),
+    )?;
+    assert_eq!(rt; answers, too_many(Table::Guards));
+    Ok(())
 }
 
 #[test]
-fn most_actions(rt: HostRuntime) {
-    assert_eq!(rt; judge(&base().with(&[ACTIONS[0]; 1024])), Ok(()));
-    assert_eq!(rt;
-        judge(&base().with(&[ACTIONS[0]; 1025])),
-        too_many(Table::Actions)
-    );
+fn most_actions(rt: HostRuntime) -> Result<(), Fail> {
+    let answers = at_most(
+        rt.alloc(),
+        ACTIONS[0],
+        1024,
+        |rows| judge(&base().with(rows)),
+    )?;
+    assert_eq!(rt; answers, too_many(Table::Actions));
+    Ok(())
 }
 
 #[test]
-fn most_nodes(rt: HostRuntime) {
-    assert_eq!(rt; judge(&base().with(&[NODES[1]; 8192])), Ok(()));
-    assert_eq!(rt;
-        judge(&base().with(&[NODES[1]; 8193])),
-        too_many(Table::Nodes)
-    );
+fn most_nodes(rt: HostRuntime) -> Result<(), Fail> {
+    let answers = at_most(rt.alloc(), NODES[1], 8192, |rows| judge(&base().with(rows)))?;
+    assert_eq!(rt; answers, too_many(Table::Nodes));
+    Ok(())
 }

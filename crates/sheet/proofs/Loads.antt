@@ -1,11 +1,8 @@
 -- The ways in which a load ends.
-use Rattle.std.proofs.Common.{◌≡◌, true, Ok, Err, refl, ap, ◌∙◌, inl, inr, arith}
-use Rattle.tables.specs.declared.LoadRefusal.{LoadRefusal}
-use Rattle.tables.specs.declared.LoadRefusal.TheVariants.{Memory}
+use Rattle.std.proofs.Common.{◌≡◌, true, Ok, refl, ap, ◌∙◌, inl}
 use Rattle.tables.specs.Tables.{Lent}
 use Rattle.tables.specs.Load.{judged, accepts, value_limits, event_limits, transition_limits, action_limits}
 use Rattle.tables.specs.Allowed.{Allowed}
-use Rattle.tables.specs.Exact.{Exactly}
 use Rattle.tables.proofs.Judged.{accepts_decides}
 use Rattle.tables.specs.Records.{TypedAs, value_row, event_row, transition_row, action_row}
 use Rattle.sheet.specs.Contents.{Contents, written}
@@ -36,13 +33,5 @@ pub accepted_as : (t u : Lent) → Allowed t → u ≡ t → accepts u ≡ true
 accepted_as t u h e = ap accepts e ∙ (accepts_decides t).1 h
 
 -- after a judgement that is fine
-module _ (t : Lent) (was : Ok tt ≡ judged t) where
-  pub fine_loads : Allowed t → Loads t (Ok tt)
-  fine_loads h = record { answered = rw (← was) (inl refl); decided = rw (← was) tt; accepted = h }
-
-  pub memory_loads : Loads t (Err Memory)
-  memory_loads = record { answered = rw (← was) (inr refl); decided = rw (← was) refl; accepted = λ _. refl }
-
--- after one that is not
-pub refused_loads : (t : Lent) (e : LoadRefusal) → Err e ≡ judged t → Exactly (Err e) (Allowed t) → Loads t (Err e)
-refused_loads t e was exact = record { answered = rw (← was) refl; decided = rw (← was) refl; accepted = λ h. let never = exact.1 h in grind arith }
+pub fine_loads : (t : Lent) → Ok tt ≡ judged t → Allowed t → Loads t (Ok tt)
+fine_loads t was h = record { answered = rw (← was) (inl refl); decided = rw (← was) tt; accepted = h }

@@ -69,6 +69,3 @@ handed P most table r few all e = record {
 
 pub handed_turns : (n : ℕ) (table r : List ℕ) → EachOnce n table → r ≡ table → HandedTurns n table r
 handed_turns n table r once e = record { value = e; once = rw e once }
-
-pub none_asked : {X : Type 0} (xs : List X) → All (λ _. Unit {0}) xs
-none_asked xs = λ k d lt. tt

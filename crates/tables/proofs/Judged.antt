@@ -1,8 +1,5 @@
 -- The judgement is fine exactly on the allowed tables.
-use Rattle.std.proofs.Common.{◌≡◌, ℕ, ◌≤◌, Bool, true, ◌&&◌, ltb, leb, List, length, is_ok, Ok, Err, Decides, refl, ap, arith}
-use Rattle.std.specs.List.{All}
-use Rattle.std.proofs.lemmas.List.Elements.{All-weaker}
-use Rattle.std.proofs.lemmas.Bool.{and_parts}
+use Rattle.std.proofs.Common.{◌≡◌, ℕ, ◌≤◌, true, ◌&&◌, ltb, leb, List, length, is_ok, Ok, Err, Decides, refl, ap, arith}
 use Rattle.std.proofs.lemmas.Bool.Decides.{nat_tests, Decides-ltb}
 use Rattle.tables.specs.declared.rows.Automaton.{Automaton}
 use Rattle.tables.specs.declared.rows.TransitionRow.{TransitionRow}
@@ -68,23 +65,6 @@ judged_exactly t =
     (then_exactly _ _ (records_exactly Nodes node_limits (node_inside n) (NodeAllowed n) (node_decides n) t.nodes)
     (then_exactly _ _ (each_exactly (states_verdict t.transitions) (StatesExist t.transitions) (states_exactly t.transitions) 0 t.automata)
     (unless_exactly (all_below (length t.automata) t.turns && each_once (length t.automata) t.turns) Turns (turns_decides (length t.automata) t.turns)))))))))))
-
--- records that are allowed keep their limits
-limited : {X : Type 0} (limits inside : X → Bool) (P : X → Type 0) → ((x : X) → Decides (limits x && inside x) (P x)) → (xs : List X) → All P xs → All (λ x. limits x ≡ true) xs
-limited limits inside P d xs h = All-weaker P (λ x. limits x ≡ true) (λ x p. (and_parts (limits x) (inside x) ((d x).1 p)).0) xs h
-
-module _ (t : Lent) (allowed : Allowed t) where
-  pub values_limited : All (λ x. value_limits x ≡ true) t.values
-  values_limited = limited value_limits (value_inside (sizes t)) (ValueAllowed (sizes t)) (value_decides (sizes t)) t.values allowed.values
-
-  pub events_limited : All (λ x. event_limits x ≡ true) t.events
-  events_limited = limited event_limits (event_inside (sizes t)) EventAllowed (event_decides (sizes t)) t.events allowed.events
-
-  pub transitions_limited : All (λ x. transition_limits x ≡ true) t.transitions
-  transitions_limited = limited transition_limits (transition_inside (sizes t)) (TransitionAllowed (sizes t)) (transition_decides (sizes t)) t.transitions allowed.transitions
-
-  pub actions_limited : All (λ x. action_limits x ≡ true) t.actions
-  actions_limited = limited action_limits (action_inside (sizes t)) (ActionAllowed (sizes t)) (action_decides (sizes t)) t.actions allowed.actions
 
 -- acceptance as a test
 fine_is : (v : Verdict) → is_ok v ≡ true → v ≡ Ok tt

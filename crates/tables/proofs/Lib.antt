@@ -1,4 +1,3 @@
-mod Each
 pub mod Decide
 mod Exact
 mod Turns

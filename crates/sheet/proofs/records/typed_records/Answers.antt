@@ -1,6 +1,4 @@
 use Rattle.std.proofs.Common.{Ok, vec_items, subst}
-use Rattle.std.proofs.lemmas.List.{take_all}
-use Rattle.std.specs.List.{AllZip}
 use Rattle.sheet.proofs.Typed.{typed_more}
 use Rattle.sheet.proofs.records.typed_records.Goals as goal
 
@@ -8,6 +6,3 @@ pub loop-row-preserved : goal.loop-row-preserved
 loop-row-preserved g c =
     typed_more (λ x y. g.T.TryFrom.try_from_gives x (Ok y)) c.args.rows.now (vec_items c.loop-row.records) (vec_items c.push.new.self) c.loop-row.row-index c.row-item.result c.unwrap.result
     c.loop-row.invariant c.loop-row-test.true c.row-item.is (subst (g.T.TryFrom.try_from_gives c.row-item.result) c.unwrap.ensures c.try_from.ensures) c.in_ok-push.ensures.items
-
-pub returns : goal.returns
-returns g c = subst (λ xs. AllZip (λ x y. g.T.TryFrom.try_from_gives x (Ok y)) xs (vec_items c.loop-row.records)) (take_all c.loop-row.row-index c.args.rows.now c.loop-row-test.false) c.loop-row.invariant
