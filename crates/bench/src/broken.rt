@@ -1,8 +1,10 @@
 // Broken variants of the shuttle's sheet: each is refused, and the sheet that was loaded stays.
+ghost use Rattle.std.specs.Prelude.{◌<◌};
+
 use samples::shuttle;
 use sheet::Sheet;
 use std::io;
-use tables::{Stretch, Tables};
+use tables::{Stretch, TableRow, Tables};
 
 // A sheet that broken tables are tried on.
 #[derive(Drop)]
@@ -23,6 +25,21 @@ impl Tried<'_> {
         }
     }
 
+    // The shuttle's tables with one record of a table changed by `edit`.
+    fn vary<R: TableRow, const N: usize, F: FnOnce(&mut R)>(
+        &mut self,
+        change: &str,
+        mut rows: [R; N],
+        at: usize,
+        edit: F,
+    ) -> io::Result<()>
+        requires at { at < N }
+        requires edit { F.IsAlwaysCallable edit }
+    {
+        edit(&mut rows[at]);
+        self.attempt(change, shuttle::tables().with(&rows))
+    }
+
     fn too_many(&mut self) -> anyhow::Result<()> {
         let values = vec![in self.rt.alloc(); shuttle::VALUES[0]; 129]?;
         self.attempt("129 values", shuttle::tables().with(&values))?;
@@ -30,132 +47,132 @@ impl Tried<'_> {
     }
 
     fn values(&mut self) -> io::Result<()> {
-        let mut values = shuttle::VALUES;
-        values[0].kind = 4;
-        self.attempt("the lever has kind 4", shuttle::tables().with(&values))?;
-        let mut values = shuttle::VALUES;
-        values[2].owner = 1;
-        self.attempt(
+        let values = shuttle::VALUES;
+        self.vary("the lever has kind 4", values, 0, |lever| lever.kind = 4)?;
+        self.vary(
             "the shared gear has owner 1",
-            shuttle::tables().with(&values),
+            values,
+            2,
+            |gear| gear.owner = 1,
         )?;
-        let mut values = shuttle::VALUES;
-        values[6].owner = 2;
-        self.attempt(
+        self.vary(
             "the local fill is owned by automaton 2",
-            shuttle::tables().with(&values),
+            values,
+            6,
+            |fill| fill.owner = 2,
         )
     }
 
     fn events(&mut self) -> io::Result<()> {
-        let mut events = shuttle::EVENTS;
-        events[3].kind = 3;
-        self.attempt(
+        let events = shuttle::EVENTS;
+        self.vary(
             "the event ready has kind 3",
-            shuttle::tables().with(&events),
+            events,
+            3,
+            |ready| ready.kind = 3,
         )
     }
 
     fn automata(&mut self) -> io::Result<()> {
-        let mut automata = shuttle::AUTOMATA;
-        automata[0].states = 33;
-        self.attempt("the gear has 33 states", shuttle::tables().with(&automata))?;
-        let mut automata = shuttle::AUTOMATA;
-        automata[1].transitions.count = 7;
-        self.attempt(
-            "the clutch lists one transition past the end",
-            shuttle::tables().with(&automata),
+        let automata = shuttle::AUTOMATA;
+        self.vary(
+            "the gear has 33 states",
+            automata,
+            0,
+            |gear| gear.states = 33,
         )?;
-        let mut automata = shuttle::AUTOMATA;
-        automata[1].initial = 3;
-        self.attempt(
+        self.vary(
+            "the clutch lists one transition past the end",
+            automata,
+            1,
+            |clutch| {
+                clutch.transitions.count = 7;
+            },
+        )?;
+        self.vary(
             "the clutch begins in state 3 of 3",
-            shuttle::tables().with(&automata),
+            automata,
+            1,
+            |clutch| clutch.initial = 3,
         )
     }
 
     fn transitions(&mut self) -> io::Result<()> {
-        let mut transitions = shuttle::TRANSITIONS;
-        transitions[4].urgent = 2;
-        self.attempt(
+        let transitions = shuttle::TRANSITIONS;
+        self.vary(
             "transition 4 has urgent 2",
-            shuttle::tables().with(&transitions),
+            transitions,
+            4,
+            |row| row.urgent = 2,
         )?;
-        let mut transitions = shuttle::TRANSITIONS;
-        transitions[6].trigger = 4;
-        self.attempt(
+        self.vary(
             "transition 6 waits for event 4",
-            shuttle::tables().with(&transitions),
+            transitions,
+            6,
+            |row| row.trigger = 4,
         )?;
-        let mut transitions = shuttle::TRANSITIONS;
-        transitions[1].destination = 3;
-        self.attempt(
+        self.vary(
             "transition 1 goes to state 3 of 3",
-            shuttle::tables().with(&transitions),
+            transitions,
+            1,
+            |row| row.destination = 3,
         )?;
-        let mut transitions = shuttle::TRANSITIONS;
-        transitions[2].guards = Stretch {
-            first: 65535,
-            count: 65535,
-        };
-        self.attempt(
+        self.vary(
             "transition 2 has guards 65535 to 131069",
-            shuttle::tables().with(&transitions),
+            transitions,
+            2,
+            |row| {
+                row.guards = Stretch {
+                    first: 65535,
+                    count: 65535,
+                };
+            },
         )
     }
 
     fn guards(&mut self) -> io::Result<()> {
-        let mut guards = shuttle::GUARDS;
-        guards[4].nodes.count = 0;
-        self.attempt("guard 4 has no nodes", shuttle::tables().with(&guards))?;
-        let mut guards = shuttle::GUARDS;
-        guards[12].nodes = Stretch {
-            first: 58,
-            count: 3,
-        };
-        self.attempt(
-            "guard 12 ends one node past the end",
-            shuttle::tables().with(&guards),
-        )
+        let guards = shuttle::GUARDS;
+        self.vary(
+            "guard 4 has no nodes",
+            guards,
+            4,
+            |guard| guard.nodes.count = 0,
+        )?;
+        self.vary("guard 12 ends one node past the end", guards, 12, |guard| {
+            guard.nodes = Stretch {
+                first: 58,
+                count: 3,
+            };
+        })
     }
 
     fn actions(&mut self) -> io::Result<()> {
-        let mut actions = shuttle::ACTIONS;
-        actions[6].nodes.count = 1;
-        self.attempt(
+        let actions = shuttle::ACTIONS;
+        self.vary(
             "action 6 emits and has a node",
-            shuttle::tables().with(&actions),
+            actions,
+            6,
+            |action| action.nodes.count = 1,
         )?;
-        let mut actions = shuttle::ACTIONS;
-        actions[30].target = 7;
-        self.attempt(
+        self.vary(
             "action 30 assigns value 7",
-            shuttle::tables().with(&actions),
+            actions,
+            30,
+            |action| action.target = 7,
         )
     }
 
     fn nodes(&mut self) -> io::Result<()> {
-        let mut nodes = shuttle::NODES;
-        nodes[56].code = 0;
-        self.attempt("node 56 reads value 300", shuttle::tables().with(&nodes))?;
-        let mut nodes = shuttle::NODES;
-        nodes[1].argument = -1;
-        self.attempt("node 1 reads value -1", shuttle::tables().with(&nodes))
+        let nodes = shuttle::NODES;
+        self.vary("node 56 reads value 300", nodes, 56, |node| node.code = 0)?;
+        self.vary("node 1 reads value -1", nodes, 1, |node| node.argument = -1)
     }
 
     fn turns(&mut self) -> io::Result<()> {
-        self.attempt(
-            "only the gear has a turn",
-            shuttle::tables().with_turns(&[0]),
-        )?;
-        self.attempt(
-            "the gear has two turns",
-            shuttle::tables().with_turns(&[0, 1, 0]),
-        )?;
-        self.attempt(
-            "automaton 65535 has a turn",
-            shuttle::tables().with_turns(&[0, 65535]),
-        )
+        let tables = shuttle::tables();
+        self.attempt("only the gear has a turn", tables.with_turns(&[0]))?;
+        self.attempt("the gear has two turns", tables.with_turns(&[0, 1, 0]))?;
+        self.attempt("automaton 65535 has a turn", tables.with_turns(&[0, 65535]))
     }
 
     // An earlier record's index is judged before a later record's limits.

@@ -92,29 +92,43 @@ impl Ways {
     }
 }
 
-// Prints what a position gives, and says whether the guards and the right sides disagree.
+// How often the two ways disagree.
+#[derive(Clone, Copy)]
+struct Disagreements {
+    guards: u32,
+    right_sides: u32,
+}
+
+// Prints what a position gives, and says where the two ways disagree on it.
 fn show_position(
     rt: &HostRuntime,
     guard: &Ways,
     right: &Ways,
     position: i32,
-) -> io::Result<(bool, bool)> {
+) -> io::Result<Disagreements> {
     let mut row = [0; 7];
     row[LEVER] = position;
     row[GEAR] = position;
     let signed = Ranges::verdict(&guard.signed, &row);
     let byte = Ranges::verdict(&guard.byte, &row);
-    let apart = signed != byte;
+    let guards = signed != byte;
     let signed = word(signed);
     let byte = word(byte);
     let gear = Ranges::value(&right.signed, &row);
     let bus = Ranges::value(&right.byte, &row);
-    let differ = gear != bus;
+    let right_sides = gear != bus;
     let gear = Given(gear);
     let bus = Given(bus);
-    let mark = if apart || differ { "  disagree" } else { "" };
+    let mark = if guards || right_sides {
+        "  disagree"
+    } else {
+        ""
+    };
     println!(rt; "  {position:>5}  {signed:<12}  {byte:<17}  {gear}, {bus}{mark}")?;
-    Ok((apart, differ))
+    Ok(Disagreements {
+        guards: u32::from(guards),
+        right_sides: u32::from(right_sides),
+    })
 }
 
 pub fn show_lever(rt: &HostRuntime, sheet: &Sheet) -> anyhow::Result<()> {
@@ -122,15 +136,19 @@ pub fn show_lever(rt: &HostRuntime, sheet: &Sheet) -> anyhow::Result<()> {
     let right = Ways::of(rt.alloc(), right_nodes(sheet, TELL_BUS))?;
     println!(rt; "the lever as a signed number and by byte")?;
     println!(rt; "  lever  less lever 0  less byte lever 0  gear, byte gear")?;
-    let mut apart = 0u32;
-    let mut differ = 0u32;
+    let mut all = Disagreements {
+        guards: 0,
+        right_sides: 0,
+    };
     for position in -128..128 {
-        let (a, d) = show_position(rt, &guard, &right, position)?;
-        apart = apart.saturating_add(u32::from(a));
-        differ = differ.saturating_add(u32::from(d));
+        let here = show_position(rt, &guard, &right, position)?;
+        all.guards = all.guards.saturating_add(here.guards);
+        all.right_sides = all.right_sides.saturating_add(here.right_sides);
     }
+    let guards = all.guards;
+    let right_sides = all.right_sides;
     println!(rt;
-        "  of 256 positions the guards disagree at {apart} and the right sides at {differ}"
+        "  of 256 positions the guards disagree at {guards} and the right sides at {right_sides}"
     )?;
     Ok(())
 }

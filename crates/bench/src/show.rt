@@ -27,10 +27,7 @@ impl fmt::Display for Numbers {
 
 // The name of a record, or a mark where it has none.
 fn name<'a>(names: &'a [&'a str], number: usize) -> &'a str {
-    match names.get(number) {
-        Some(name) => *name,
-        None => "?",
-    }
+    names.get(number).copied().unwrap_or("?")
 }
 
 // The kind of a value, a local with its owner's name.
@@ -40,13 +37,11 @@ struct Role<'a>(ValueKind, &'a [&'a str]);
 impl fmt::Display for Role<'_> {
     fn fmt<W: fmt::Write>(&self, f: &mut fmt::Formatter<W>) -> fmt::Result {
         match self.0 {
-            ValueKind::Input => f.write_str("input"),
-            ValueKind::Output => f.write_str("output"),
-            ValueKind::Shared => f.write_str("shared"),
             ValueKind::Local { owner } => {
                 let automaton = name(self.1, usize::from(owner));
                 write!(f, "local of {automaton}")
             }
+            kind => write!(f, "{kind}"),
         }
     }
 }

@@ -2,21 +2,19 @@
 use crate::base::*;
 use std::alloc::{AllocError, Global};
 use std::test::Fail;
-use tables::{Automaton, LoadRefusal, Table, judge};
+use tables::{Automaton, LoadRefusal, Table, TableRow, judge};
 
-// What is answered on a table of so many copies of a record, and on one of one copy more.
-fn at_most<R: Copy, F: Fn(&[R]) -> Result<(), LoadRefusal>>(
+// What is answered on a table of so many copies of a record, and on one of one copy more. Each table has a test of its own,
+// so that a failure names it.
+fn at_most<R: TableRow>(
     heap: Global,
     one: R,
     most: usize,
-    answer: F,
-) -> Result<[Result<(), LoadRefusal>; 2], AllocError>
-    requires { F.IsAlwaysCallable answer }
-{
+) -> Result<[Result<(), LoadRefusal>; 2], AllocError> {
     let mut rows = vec![in heap; one; most]?;
-    let full = answer(&rows);
+    let full = judge(&base().with(&rows));
     rows.push(one)?;
-    Ok([full, answer(&rows)])
+    Ok([full, judge(&base().with(&rows))])
 }
 
 fn too_many(table: Table) -> [Result<(), LoadRefusal>; 2] {
@@ -25,14 +23,14 @@ fn too_many(table: Table) -> [Result<(), LoadRefusal>; 2] {
 
 #[test]
 fn most_values(rt: HostRuntime) -> Result<(), Fail> {
-    let answers = at_most(rt.alloc(), VALUES[1], 128, |rows| judge(&base().with(rows)))?;
+    let answers = at_most(rt.alloc(), VALUES[1], 128)?;
     assert_eq!(rt; answers, too_many(Table::Values));
     Ok(())
 }
 
 #[test]
 fn most_events(rt: HostRuntime) -> Result<(), Fail> {
-    let answers = at_most(rt.alloc(), EVENTS[1], 64, |rows| judge(&base().with(rows)))?;
+    let answers = at_most(rt.alloc(), EVENTS[1], 64)?;
     assert_eq!(rt; answers, too_many(Table::Events));
     Ok(())
 }
@@ -56,43 +54,28 @@ fn most_automata(rt: HostRuntime) -> Result<(), Fail> {
 
 #[test]
 fn most_transitions(rt: HostRuntime) -> Result<(), Fail> {
-    let answers = at_most(
-        rt.alloc(),
-        TRANSITIONS[0],
-        512,
-        |rows| judge(&base().with(rows)),
-    )?;
+    let answers = at_most(rt.alloc(), TRANSITIONS[0], 512)?;
     assert_eq!(rt; answers, too_many(Table::Transitions));
     Ok(())
 }
 
 #[test]
 fn most_guards(rt: HostRuntime) -> Result<(), Fail> {
-    let answers = at_most(
-        rt.alloc(),
-        GUARDS[0],
-        1024,
-        |rows| judge(&base().with(rows)),
-    )?;
+    let answers = at_most(rt.alloc(), GUARDS[0], 1024)?;
     assert_eq!(rt; answers, too_many(Table::Guards));
     Ok(())
 }
 
 #[test]
 fn most_actions(rt: HostRuntime) -> Result<(), Fail> {
-    let answers = at_most(
-        rt.alloc(),
-        ACTIONS[0],
-        1024,
-        |rows| judge(&base().with(rows)),
-    )?;
+    let answers = at_most(rt.alloc(), ACTIONS[0], 1024)?;
     assert_eq!(rt; answers, too_many(Table::Actions));
     Ok(())
 }
 
 #[test]
 fn most_nodes(rt: HostRuntime) -> Result<(), Fail> {
-    let answers = at_most(rt.alloc(), NODES[1], 8192, |rows| judge(&base().with(rows)))?;
+    let answers = at_most(rt.alloc(), NODES[1], 8192)?;
     assert_eq!(rt; answers, too_many(Table::Nodes));
     Ok(())
 }

@@ -7,6 +7,7 @@ mod records;
 mod refusal;
 mod rows;
 mod stretches;
+mod variants;
 
 pub use judgement::judge;
 pub use limits::{
@@ -18,3 +19,4 @@ pub use refusal::{LoadRefusal, Table};
 pub use rows::{
     ActionRow, Automaton, EventRow, Guard, Node, Sizes, Stretch, Tables, TransitionRow, ValueRow,
 };
+pub use variants::TableRow;

@@ -1,14 +1,11 @@
 // What each lent record is judged by, alone: its limits, then its indices and stretches.
-ghost use Rattle.std.specs.Prelude.{◌≡◌, Bool, List};
+ghost use Rattle.std.specs.Prelude.{◌≡◌, Bool};
 ghost use Rattle.tables.specs.declared.rows.Sizes.{Sizes};
 ghost use Rattle.tables.specs.Load.{value_limits, value_inside, event_limits, event_inside, automaton_limits, automaton_inside, transition_limits, transition_inside, guard_limits, guard_inside, action_limits, action_inside, node_limits, node_inside};
-ghost use Rattle.tables.specs.Tables.{Lent, lent, with_values, with_events, with_automata, with_transitions, with_guards, with_actions, with_nodes, with_turns};
 ghost use Rattle.tables.specs.Records.{TypedAs, value_row, event_row, transition_row, action_row};
 
 use crate::records::{Action, EventKind, OutOfLimits, Transition, Value, ValueKind};
-use crate::rows::{
-    ActionRow, Automaton, EventRow, Guard, Node, Sizes, Tables, TransitionRow, ValueRow,
-};
+use crate::rows::{ActionRow, Automaton, EventRow, Guard, Node, Sizes, TransitionRow, ValueRow};
 
 // How many records each table may have.
 pub const MOST_VALUES: usize = 128;
@@ -45,33 +42,13 @@ pub trait Row: Copy {
     // That its indices and stretches lie inside tables of these sizes.
     ghost inside: { Sizes → Self → Bool };
 
+    // The record that it stands for, if its fields keep their limits.
     fn typed(self) -> Result<Self::Record, OutOfLimits>
         ensures { TypedAs limited row self result };
 
-    // The tables with other records of this kind.
-    ghost put: { List Self → Lent → Lent };
-
+    // Whether the indices and stretches of such a record lie inside tables of these sizes.
     fn lies_inside(typed: Self::Record, sizes: &Sizes) -> bool
         ensures { result ≡ inside sizes.now (row typed) };
-
-    fn put<'a>(rows: &'a [Self], tables: Tables<'a>) -> Tables<'a>
-        ensures { lent result ≡ put rows.now (lent tables.entry) };
-}
-
-impl<'a> Tables<'a> {
-    // The same tables but for the records of one kind.
-    pub fn with<R: Row>(self, rows: &'a [R]) -> Tables<'a>
-        ensures { lent result ≡ R.Row.put rows.now (lent self.entry) }
-    {
-        R::put(rows, self)
-    }
-
-    // The same tables but for the turn list.
-    pub fn with_turns(self, turns: &'a [u16]) -> Tables<'a>
-        ensures { lent result ≡ with_turns turns.now (lent self.entry) }
-    {
-        Tables { turns, ..self }
-    }
 }
 
 impl Row for ValueRow {
@@ -83,8 +60,6 @@ impl Row for ValueRow {
 
     ghost inside = { value_inside };
 
-    ghost put = { with_values };
-
     fn typed(self) -> Result<Value, OutOfLimits> {
         Value::try_from(self)
     }
@@ -94,10 +69,6 @@ impl Row for ValueRow {
             ValueKind::Local { owner } => usize::from(owner) < sizes.automata,
             _ => true,
         }
-    }
-
-    fn put<'a>(values: &'a [ValueRow], tables: Tables<'a>) -> Tables<'a> {
-        Tables { values, ..tables }
     }
 }
 
@@ -110,18 +81,12 @@ impl Row for EventRow {
 
     ghost inside = { event_inside };
 
-    ghost put = { with_events };
-
     fn typed(self) -> Result<EventKind, OutOfLimits> {
         EventKind::try_from(self)
     }
 
     fn lies_inside(_kind: EventKind, _sizes: &Sizes) -> bool {
         true
-    }
-
-    fn put<'a>(events: &'a [EventRow], tables: Tables<'a>) -> Tables<'a> {
-        Tables { events, ..tables }
     }
 }
 
@@ -134,8 +99,6 @@ impl Row for Automaton {
 
     ghost inside = { automaton_inside };
 
-    ghost put = { with_automata };
-
     fn typed(self) -> Result<Automaton, OutOfLimits> {
         if (1..=MOST_STATES).contains(&self.states) {
             Ok(self)
@@ -146,10 +109,6 @@ impl Row for Automaton {
 
     fn lies_inside(automaton: Automaton, sizes: &Sizes) -> bool {
         automaton.actions.ends_in(sizes.actions) && automaton.transitions.ends_in(sizes.transitions)
-    }
-
-    fn put<'a>(automata: &'a [Automaton], tables: Tables<'a>) -> Tables<'a> {
-        Tables { automata, ..tables }
     }
 }
 
@@ -162,8 +121,6 @@ impl Row for TransitionRow {
 
     ghost inside = { transition_inside };
 
-    ghost put = { with_transitions };
-
     fn typed(self) -> Result<Transition, OutOfLimits> {
         Transition::try_from(self)
     }
@@ -172,13 +129,6 @@ impl Row for TransitionRow {
         usize::from(transition.trigger) < sizes.events
             && transition.guards.ends_in(sizes.guards)
             && transition.actions.ends_in(sizes.actions)
-    }
-
-    fn put<'a>(transitions: &'a [TransitionRow], tables: Tables<'a>) -> Tables<'a> {
-        Tables {
-            transitions,
-            ..tables
-        }
     }
 }
 
@@ -191,8 +141,6 @@ impl Row for Guard {
 
     ghost inside = { guard_inside };
 
-    ghost put = { with_guards };
-
     fn typed(self) -> Result<Guard, OutOfLimits> {
         if self.nodes.is_expression() {
             Ok(self)
@@ -204,10 +152,6 @@ impl Row for Guard {
     fn lies_inside(guard: Guard, sizes: &Sizes) -> bool {
         guard.nodes.ends_in(sizes.nodes)
     }
-
-    fn put<'a>(guards: &'a [Guard], tables: Tables<'a>) -> Tables<'a> {
-        Tables { guards, ..tables }
-    }
 }
 
 impl Row for ActionRow {
@@ -218,8 +162,6 @@ impl Row for ActionRow {
     ghost row = { action_row };
 
     ghost inside = { action_inside };
-
-    ghost put = { with_actions };
 
     fn typed(self) -> Result<Action, OutOfLimits> {
         Action::try_from(self)
@@ -233,10 +175,6 @@ impl Row for ActionRow {
             }
         }
     }
-
-    fn put<'a>(actions: &'a [ActionRow], tables: Tables<'a>) -> Tables<'a> {
-        Tables { actions, ..tables }
-    }
 }
 
 impl Row for Node {
@@ -248,17 +186,11 @@ impl Row for Node {
 
     ghost inside = { node_inside };
 
-    ghost put = { with_nodes };
-
     fn typed(self) -> Result<Node, OutOfLimits> {
         Ok(self)
     }
 
     fn lies_inside(node: Node, sizes: &Sizes) -> bool {
         node.code != READ || usize::try_from(node.argument).is_ok_and(|value| value < sizes.values)
-    }
-
-    fn put<'a>(nodes: &'a [Node], tables: Tables<'a>) -> Tables<'a> {
-        Tables { nodes, ..tables }
     }
 }

@@ -46,6 +46,17 @@ pub enum Action {
     Assign { value: u16, nodes: Stretch },
 }
 
+impl fmt::Display for ValueKind {
+    fn fmt<W: fmt::Write>(&self, f: &mut fmt::Formatter<W>) -> fmt::Result {
+        match self {
+            ValueKind::Input => f.write_str("input"),
+            ValueKind::Output => f.write_str("output"),
+            ValueKind::Shared => f.write_str("shared"),
+            ValueKind::Local { owner } => write!(f, "local of automaton {owner}"),
+        }
+    }
+}
+
 impl fmt::Display for EventKind {
     fn fmt<W: fmt::Write>(&self, f: &mut fmt::Formatter<W>) -> fmt::Result {
         f.write_str(match self {

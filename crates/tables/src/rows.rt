@@ -40,7 +40,7 @@ pub struct Automaton {
 }
 
 // A transition from state `source` to state `destination` on the event `trigger`. Urgent is 1 or 0. The loaded
-// `Transition` has another type in that field alone; one record generic in it would be named by neither meaning.
+// `Transition` has another type in that field alone; a record generic in it would need two names all the same.
 #[derive(Clone, Copy, PartialEq, Eq, Debug)]
 pub struct TransitionRow {
     pub source: u16,
