@@ -26,3 +26,5 @@ mod judging;
 mod loading;
 #[cfg(test)]
 mod order;
+#[cfg(test)]
+mod words;

@@ -1,7 +1,7 @@
 // What a sheet holds after a load, and after a refused one.
 use crate::base::*;
-use sheet::{Action, Sheet, ValueKind};
-use tables::{LoadRefusal, TransitionRow};
+use sheet::{Action, Sheet, Value, ValueKind};
+use tables::{LoadRefusal, Stretch, TransitionRow};
 
 #[test]
 fn begins_empty(rt: HostRuntime) {
@@ -20,38 +20,26 @@ fn begins_empty(rt: HostRuntime) {
     );
 }
 
-fn local_of(sheet: &Sheet, value: usize) -> Option<u16> {
-    match sheet.values().get(value)?.kind {
-        ValueKind::Local { owner } => Some(owner),
-        _ => None,
-    }
-}
-
-fn assigned(sheet: &Sheet, action: usize) -> Option<u16> {
-    match *sheet.actions().get(action)? {
-        Action::Assign { value, .. } => Some(value),
-        Action::Emit { .. } => None,
-    }
-}
-
-fn emitted(sheet: &Sheet, action: usize) -> Option<u16> {
-    match *sheet.actions().get(action)? {
-        Action::Assign { .. } => None,
-        Action::Emit { event } => Some(event),
-    }
-}
-
-fn urgent(sheet: &Sheet, transition: usize) -> Option<bool> {
-    Some(sheet.transitions().get(transition)?.urgent)
+fn first_is_urgent(sheet: &Sheet) -> Option<bool> {
+    Some(sheet.transitions().first()?.urgent)
 }
 
 // That a sheet holds the base tables, as far as these questions go.
 fn holds_base(sheet: &Sheet) -> bool {
-    local_of(sheet, 0).is_none()
-        && local_of(sheet, 1) == Some(0)
-        && assigned(sheet, 0) == Some(1)
-        && emitted(sheet, 1) == Some(1)
-        && urgent(sheet, 0) == Some(false)
+    let local = Value {
+        kind: ValueKind::Local { owner: 0 },
+        a: 0,
+        b: 9,
+    };
+    let assign = Action::Assign {
+        value: 1,
+        nodes: Stretch { first: 3, count: 1 },
+    };
+    sheet.values().first().map(|value| value.kind) == Some(ValueKind::Input)
+        && sheet.values().get(1) == Some(&local)
+        && sheet.actions().first() == Some(&assign)
+        && sheet.actions().get(1) == Some(&Action::Emit { event: 1 })
+        && first_is_urgent(sheet) == Some(false)
         && sheet.events().len() == 2
         && sheet.automata().len() == 1
         && sheet.turns().len() == 1
@@ -70,11 +58,11 @@ fn holds_what_was_lent(rt: HostRuntime) {
 fn refused_load_changes_nothing(rt: HostRuntime) {
     let mut sheet = Sheet::empty(rt.alloc());
     assert_eq!(rt; sheet.load(rt.alloc(), &base()), Ok(()));
-    assert_eq!(rt; sheet.load(rt.alloc(), &nothing().with_turns(&[]),), Ok(()));
+    assert_eq!(rt; sheet.load(rt.alloc(), &nothing().with_turns(&[])), Ok(()));
     assert!(rt; sheet.nodes().is_empty());
     assert_eq!(rt; sheet.load(rt.alloc(), &base()), Ok(()));
     assert_eq!(rt;
-        sheet.load(rt.alloc(), &base().with_turns(&[1]),),
+        sheet.load(rt.alloc(), &base().with_turns(&[1])),
         Err(LoadRefusal::Turns)
     );
     assert!(rt; holds_base(&sheet));
@@ -89,5 +77,5 @@ fn later_load_replaces(rt: HostRuntime) {
         ..TRANSITIONS[0]
     }];
     assert_eq!(rt; sheet.load(rt.alloc(), &base().with(&transitions)), Ok(()));
-    assert_eq!(rt; urgent(&sheet, 0), Some(true));
+    assert_eq!(rt; first_is_urgent(&sheet), Some(true));
 }

@@ -16,6 +16,10 @@ fn numbers_and_words(rt: HostRuntime) -> Result<(), Fail> {
         words.as_str(),
         "bad shape, divisor 0, part outside the word range"
     );
+    let none = NarrowRefusal::NoGuard;
+    let never = NarrowRefusal::Never;
+    let words = format!(in rt.alloc(); "{none}, {never}")?;
+    assert_eq!(rt; words.as_str(), "no guard, never yes");
     assert_eq!(rt;
         (
             narrowing_number(Ok(())),
