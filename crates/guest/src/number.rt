@@ -29,7 +29,8 @@ impl NarrowRefusal {
     }
 }
 
-// The refusal that a sheet meets by this answer of the narrowing call, or 0.
+// The refusal that a sheet meets by this answer of the narrowing call, or 0. The promise at 0 is why there is a function
+// for the whole answer.
 pub fn narrowing_number(answer: Result<(), NarrowRefusal>) -> u8
     ensures { result ≡ narrowing_number answer }
 {

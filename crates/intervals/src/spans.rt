@@ -21,7 +21,7 @@ impl Range {
     pub fn holds(self, number: i32) -> bool
         ensures { result ≡ held self number }
     {
-        self.lo <= number && number <= self.hi
+        (self.lo..=self.hi).contains(&number)
     }
 
     // Whether the other range holds every number of this one.

@@ -37,6 +37,7 @@ impl<P: Pass> Walk<'_, P> {
         within_row(P::head(*node), self.row.len())
     }
 
+    // `number` and `truth` match on different heads, so they are two.
     #[cycle(number_truth)]
     #[tactic(auto, using(crate::proofs::Steps::number_steps))]
     fn number(&mut self) -> Option<P::Number>

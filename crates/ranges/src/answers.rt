@@ -55,6 +55,7 @@ impl Guest for Ranges {
         number_pass::<Typing>(nodes, types).flatten()
     }
 
+    // The trait asks for a value and for a verdict, so there are two functions; each is one call.
     fn value(nodes: &[Node], row: &[i32]) -> Result<i32, Reason> {
         number_pass::<Evaluation>(nodes, row).unwrap_or(Err(Reason::BadShape))
     }

@@ -23,6 +23,7 @@ fn apply(operation: Arithmetic, a: i32, b: i32) -> Result<i32, Reason>
     made.ok_or(Reason::OutsideWord)
 }
 
+// An order is read from a node as well.
 fn compared(order: Order, a: i32, b: i32) -> bool
     ensures { result ≡ compared_by order a b }
 {

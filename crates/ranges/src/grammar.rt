@@ -8,7 +8,8 @@ use intervals::{Arithmetic, Byte};
 use prefix::{Head, Link, Order};
 use tables::Node;
 
-// The codes other than 0 and 1. This is no `TryFrom`: all types in it are of other crates, which bars the impl.
+// The codes other than 0 and 1. Neither this nor `head` is a `TryFrom`: all types in it are of other crates, which bars
+// the impl. Beyond `head` the guest has no number for an operation.
 fn operation(code: u8) -> Option<Head<Byte, Arithmetic>>
     ensures { result ≡ looked_up code codes }
 {

@@ -25,6 +25,7 @@ impl Trim for Trimming {
 
     ghost trimmed = { trimmed_by };
 
+    // The order was read from a node, so it is a value to match on.
     fn trim(order: Order, constant: i32, of: Range) -> Option<Range> {
         let lo = i64::from(of.lo);
         let hi = i64::from(of.hi);

@@ -28,6 +28,7 @@ fn corners<F: Fn(i32, i32) -> i64>(at: F, r: Range, s: Range) -> Option<Range>
     Range::spanning(a.min(b).min(c.min(d)), a.max(b).max(c.max(d)))
 }
 
+// Like the pass by values, it matches on an operation that was read from a node.
 fn spread(operation: Arithmetic, r: Range, s: Range) -> Option<Range>
     ensures { result ≡ spread_of operation r s }
 {

@@ -58,8 +58,7 @@ impl Sheet {
         ensures { Read (lent tables.now) result }
     {
         judge(tables)?;
-        let sheet = Sheet::copied(heap, tables)?;
-        Ok(sheet)
+        Ok(Sheet::copied(heap, tables)?)
     }
 
     // Takes in the lent tables if they are allowed. A refusal leaves the sheet as it was.

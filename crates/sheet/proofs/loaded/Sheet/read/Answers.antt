@@ -7,4 +7,4 @@ use Rattle.sheet.proofs.loaded.Sheet.read.Goals as goal
 pub returns : goal.returns
 returns c =
     let made = c.in_ok-judge.ensures in
-    (fine_loads (lent c.args.tables.now) made.verdict (made.exact.0 refl), stands_for _ _ c.in_ok-sheet.ensures)
+    (fine_loads (lent c.args.tables.now) made.verdict (made.exact.0 refl), stands_for _ _ c.in_ok-copied.ensures)
