@@ -49,8 +49,8 @@ pub trait Guest {
     fn verdict(nodes: &[Node], row: &[Self::Value]) -> Result<bool, Reason>
         ensures { result ≡ meaning.verdict nodes.now row.now };
 
-    // Narrows a row of types, element by element, to what is left after the guard's yes. On Ok the row has these types,
-    // which may all be as they were; after a refusal it is as it was.
+    // Narrows a row of types, element by element, to what is left after the guard's yes. On Ok the row has what is left,
+    // which may be all; after a refusal it is as it was.
     fn narrow(nodes: &[Node], types: &mut [Self::Type]) -> Result<(), NarrowRefusal>
         ensures { Leaves (meaning.narrow nodes.now types.old) types.old result types.new };
 }
