@@ -25,7 +25,8 @@ impl Tried<'_> {
         }
     }
 
-    // The shuttle's tables with one record of a table changed by `edit`.
+    // Tries the shuttle's tables with one record changed by `edit`. The record's place stands beside the records: a closure
+    // over the array is beyond the borrow checker, and one over a slice does not know that its places are in it.
     fn vary<R: TableRow, const N: usize, F: FnOnce(&mut R)>(
         &mut self,
         change: &str,

@@ -4,8 +4,8 @@ use std::alloc::{AllocError, Global};
 use std::test::Fail;
 use tables::{Automaton, LoadRefusal, Table, TableRow, judge};
 
-// What is answered on a table of so many copies of a record, and on one of one copy more. Each table has a test of its own,
-// so that a failure names it.
+// What is answered on a table of so many copies of a record, and on one of one copy more. Each table has a test of its own
+// that calls it, since the runner lists them by name.
 fn at_most<R: TableRow>(
     heap: Global,
     one: R,

@@ -1,6 +1,6 @@
 // What a sheet holds after a load, and after a refused one.
 use crate::base::*;
-use sheet::{Action, Sheet, Value, ValueKind};
+use sheet::{Action, Sheet, Transition, Value, ValueKind};
 use tables::{LoadRefusal, Stretch, TransitionRow};
 
 #[test]
@@ -20,16 +20,20 @@ fn begins_empty(rt: HostRuntime) {
     );
 }
 
-fn first_is_urgent(sheet: &Sheet) -> Option<bool> {
-    Some(sheet.transitions().first()?.urgent)
-}
-
 // That a sheet holds the base tables, as far as these questions go.
 fn holds_base(sheet: &Sheet) -> bool {
     let local = Value {
         kind: ValueKind::Local { owner: 0 },
         a: 0,
         b: 9,
+    };
+    let listed = Transition {
+        source: 0,
+        destination: 1,
+        trigger: 0,
+        urgent: false,
+        guards: Stretch { first: 0, count: 1 },
+        actions: Stretch { first: 0, count: 2 },
     };
     let assign = Action::Assign {
         value: 1,
@@ -39,7 +43,7 @@ fn holds_base(sheet: &Sheet) -> bool {
         && sheet.values().get(1) == Some(&local)
         && sheet.actions().first() == Some(&assign)
         && sheet.actions().get(1) == Some(&Action::Emit { event: 1 })
-        && first_is_urgent(sheet) == Some(false)
+        && sheet.transitions().first() == Some(&listed)
         && sheet.events().len() == 2
         && sheet.automata().len() == 1
         && sheet.turns().len() == 1
@@ -77,5 +81,6 @@ fn later_load_replaces(rt: HostRuntime) {
         ..TRANSITIONS[0]
     }];
     assert_eq!(rt; sheet.load(rt.alloc(), &base().with(&transitions)), Ok(()));
-    assert_eq!(rt; first_is_urgent(&sheet), Some(true));
+    let urgent = sheet.transitions().first().map(|listed| listed.urgent);
+    assert_eq!(rt; urgent, Some(true));
 }

@@ -26,6 +26,7 @@ impl fmt::Display for Link {
     }
 }
 
+// A read is shown by its place, so it looks like a constant; who has names shows it by its name.
 impl<U: fmt::Display, B: fmt::Display> fmt::Display for Head<U, B> {
     fn fmt<W: fmt::Write>(&self, f: &mut fmt::Formatter<W>) -> fmt::Result {
         match self {

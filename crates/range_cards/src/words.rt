@@ -4,7 +4,7 @@ use ranges::Ranges;
 use std::test::Fail;
 use tables::Node;
 
-// A node, and the word for what it stands for.
+// A node, and the word for what it stands for; a read has its place.
 static WORDS: [(Node, &str); 18] = [
     (ADD, "add"),
     (SUB, "subtract"),
