@@ -3,8 +3,6 @@ use tables::{
     ActionRow, Automaton, EventRow, Guard, Node, Stretch, Tables, TransitionRow, ValueRow, judge,
 };
 
-pub const NONE: Stretch = Stretch { first: 0, count: 0 };
-
 pub const VALUES: [ValueRow; 2] = [
     ValueRow {
         kind: 0,
@@ -51,7 +49,7 @@ pub const ACTIONS: [ActionRow; 2] = [
     ActionRow {
         kind: 0,
         target: 1,
-        nodes: NONE,
+        nodes: Stretch::NONE,
     },
 ];
 

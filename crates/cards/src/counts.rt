@@ -2,7 +2,7 @@
 use crate::base::*;
 use std::alloc::{AllocError, Global};
 use std::test::Fail;
-use tables::{Automaton, LoadRefusal, Table, TableRow, judge};
+use tables::{Automaton, LoadRefusal, Stretch, Table, TableRow, judge};
 
 // What is answered on a table of so many copies of a record, and on one of one copy more. Each table has a test of its own
 // that calls it, since the runner lists them by name.
@@ -41,8 +41,8 @@ fn most_automata(rt: HostRuntime) -> Result<(), Fail> {
     let one = Automaton {
         states: 1,
         initial: 0,
-        actions: NONE,
-        transitions: NONE,
+        actions: Stretch::NONE,
+        transitions: Stretch::NONE,
     };
     let turns: Vec<u16> = (0..32).collect(rt.alloc())?;
     let full = judge(&base().with(&[one; 32]).with_turns(&turns));

@@ -69,8 +69,8 @@ fn automaton_edges(rt: HostRuntime) {
         let automata = [Automaton {
             states,
             initial,
-            actions: NONE,
-            transitions: NONE,
+            actions: Stretch::NONE,
+            transitions: Stretch::NONE,
         }];
         assert_eq!(rt; number(&base().with(&automata)), answer);
     }
@@ -235,8 +235,8 @@ fn node_edges(rt: HostRuntime) {
 static TWO: [Automaton; 2] = [Automaton {
     states: 1,
     initial: 0,
-    actions: NONE,
-    transitions: NONE,
+    actions: Stretch::NONE,
+    transitions: Stretch::NONE,
 }; 2];
 
 // Turn lists of two automata, and their answers.

@@ -4,6 +4,7 @@ use Rattle.std.specs.List.{All}
 use Rattle.std.proofs.lemmas.List.Elements.{AllWithin-from_all}
 use Rattle.std.proofs.lemmas.List.{length-map, get_or-map, take-map, drop-map}
 use Rattle.tables.specs.declared.Automaton.{Automaton}
+use Rattle.tables.specs.declared.Stretch.{Stretch}
 use Rattle.tables.specs.declared.Sizes.{Sizes}
 use Rattle.tables.specs.declared.Transition.{Transition}
 use Rattle.sheet.specs.declared.loaded.Sheet.{Sheet}
@@ -31,14 +32,16 @@ same_sizes c = λ i. record {
   nodes = length c.nodes;
 }
 
-part_map : (a : Automaton) (ts : List Transition) → part a.transitions (map transition_row ts) ≡ map transition_row (part a.transitions ts)
-part_map a ts = ap (take a.transitions.count) (drop-map transition_row a.transitions.first ts) ∙ take-map transition_row a.transitions.count (drop a.transitions.first ts)
+part_map : (s : Stretch) (ts : List Transition) → part s (map transition_row ts) ≡ map transition_row (part s ts)
+part_map s ts = ap (take s.count) (drop-map transition_row s.first ts) ∙ take-map transition_row s.count (drop s.first ts)
 
-automaton_whole : (c : Contents) (a : Automaton) → AutomatonAllowed (sizes c) a → StatesExist (map transition_row c.transitions) a → AutomatonWhole c a
-automaton_whole c a h s = record {
+automaton_whole : (c : Contents) (automaton : Automaton) → AutomatonAllowed (sizes c) automaton → StatesExist (map transition_row c.transitions) automaton → AutomatonWhole c automaton
+automaton_whole c automaton h s = record {
   allowed = h;
   initial = s.initial;
-  listed = from_map (GoesWithin a.states) transition_row (part a.transitions c.transitions) (subst (All (GoesWithin a.states)) (part_map a c.transitions) s.listed);
+  listed =
+      from_map (GoesWithin automaton.states) transition_row (part automaton.transitions c.transitions)
+      (subst (All (GoesWithin automaton.states)) (part_map automaton.transitions c.transitions) s.listed);
 }
 
 whole_allowed : (c : Contents) → Allowed (written c) → Whole c

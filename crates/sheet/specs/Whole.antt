@@ -27,10 +27,10 @@ abbrev pub Between : ℕ → Transition → Type 0
 Between states t = (t.source < states) × (t.destination < states)
 
 -- an automaton's stretches lie inside their tables, and its own and its listed transitions' states exist
-pub record AutomatonWhole (c : Contents) (a : Automaton) : Type 0 where
-  pub allowed : AutomatonAllowed (sizes c) a
-  pub initial : a.initial < a.states
-  pub listed : All (Between a.states) (part a.transitions c.transitions)
+pub record AutomatonWhole (c : Contents) (automaton : Automaton) : Type 0 where
+  pub allowed : AutomatonAllowed (sizes c) automaton
+  pub initial : automaton.initial < automaton.states
+  pub listed : All (Between automaton.states) (part automaton.transitions c.transitions)
 
 pub record Whole (c : Contents) : Type 0 where
   pub counts : CountsAllowed (sizes c)

@@ -30,13 +30,13 @@ counts_exactly n =
     (then_exactly _ _ (unless_exactly (leb n.actions 1024) (TooMany Actions) (decides_leb n.actions 1024))
     (unless_exactly (leb n.nodes 8192) (TooMany Nodes) (decides_leb n.nodes 8192))))))))
 
-states_exactly : (ts : List TransitionRow) (k : ℕ) (a : Automaton) → Exactly (states_verdict ts k a) (StatesExist ts a)
-states_exactly ts k a =
-    exactly_like (states_verdict ts k a) (λ h. record { initial = h.0; listed = h.1 }) (λ s. (s.initial, s.listed))
-    (then_exactly _ _ (unless_exactly (ltb a.initial a.states) (NoInitialState k) (Decides-ltb a.initial a.states))
-    (each_exactly (listed_verdict k a.states) (GoesWithin a.states)
-    (λ j t. unless_exactly (ltb t.source a.states && ltb t.destination a.states) (NoListedState k j) (goes_decides a.states t))
-    a.transitions.first (part a.transitions ts)))
+states_exactly : (ts : List TransitionRow) (k : ℕ) (automaton : Automaton) → Exactly (states_verdict ts k automaton) (StatesExist ts automaton)
+states_exactly ts k automaton =
+    exactly_like (states_verdict ts k automaton) (λ h. record { initial = h.0; listed = h.1 }) (λ s. (s.initial, s.listed))
+    (then_exactly _ _ (unless_exactly (ltb automaton.initial automaton.states) (NoInitialState k) (Decides-ltb automaton.initial automaton.states))
+    (each_exactly (listed_verdict k automaton.states) (GoesWithin automaton.states)
+    (λ j t. unless_exactly (ltb t.source automaton.states && ltb t.destination automaton.states) (NoListedState k j) (goes_decides automaton.states t))
+    automaton.transitions.first (part automaton.transitions ts)))
 
 pub judged_exactly : (t : Lent) → Exactly (judged t) (Allowed t)
 judged_exactly t =

@@ -77,9 +77,9 @@ abbrev pub GoesWithin : ℕ → TransitionRow → Type 0
 GoesWithin states t = (t.source < states) × (t.destination < states)
 
 -- an automaton has its initial state and the states of the transitions that it lists
-pub record StatesExist (ts : List TransitionRow) (a : Automaton) : Type 0 where
-  pub initial : a.initial < a.states
-  pub listed : All (GoesWithin a.states) (part a.transitions ts)
+pub record StatesExist (ts : List TransitionRow) (automaton : Automaton) : Type 0 where
+  pub initial : automaton.initial < automaton.states
+  pub listed : All (GoesWithin automaton.states) (part automaton.transitions ts)
 
 -- each of n automata stands in the list once, and nothing else
 pub record EachOnce (n : ℕ) (turns : List ℕ) : Type 0 where

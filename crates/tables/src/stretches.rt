@@ -9,7 +9,7 @@ const MOST_EXPRESSION: u16 = 32;
 
 impl Stretch {
     // The stretch of no records that stands where there is none to name.
-    pub(crate) const NONE: Stretch = Stretch { first: 0, count: 0 };
+    pub const NONE: Stretch = Stretch { first: 0, count: 0 };
 
     // The records of the stretch, as far as the table has them.
     pub fn part<'a, T>(&self, table: &'a [T]) -> &'a [T]
