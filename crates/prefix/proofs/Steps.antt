@@ -11,7 +11,7 @@ use Rattle.prefix.specs.declared.grammar.Head.TheVariants.{Read, Constant, Unary
 use Rattle.prefix.specs.declared.walk.Walk.{Walk}
 use Rattle.prefix.specs.Parse.{heads, parse_number, parse_truth}
 use Rattle.prefix.specs.Pass.{Algebra, of_number, of_truth}
-use Rattle.prefix.specs.Walk.{seen, found, first, numbers, truths, Reads, ReadsHead}
+use Rattle.prefix.specs.Walk.{seen, found, first, numbers, truths, Fewer, Reads, ReadsHead}
 
 -- there are as many heads as nodes
 module _ {U B : Type 0} (grammar : Node → Option (Head U B)) (w : ℕ) where
@@ -22,6 +22,10 @@ module _ {U B : Type 0} (grammar : Node → Option (Head U B)) (w : ℕ) where
   -- a head that was read stood before what is left
   stood : (ns ms : List Node) (h : Head U B) → ms ≡ drop 1 ns → Some h ≡ first (heads grammar w ns) → (heads grammar w ns ≡ Some h ∷ heads grammar w ms) × (length ns ≡ suc (length ms))
   stood ns ms h e f = grind arith
+
+fewer_still : {R : Type 0} (r : Option R) (m n : ℕ) → m < n → Fewer m n r
+fewer_still None m n h = omega arith
+fewer_still (Some x) m n h = h
 
 -- a head of a truth begins no number
 not_number : {U B E X Y : Type 0} (A : Algebra U B E X Y) (row : List E) (k : ℕ) (h : Head U B) (hs : List (Option (Head U B))) → ((i : ℕ) → h ≡ Read i → ⊥) → ((z : ℤ) → h ≡ Constant z → ⊥) → ((u : U) → h ≡ Unary u → ⊥) → ((f : B) → h ≡ Binary f → ⊥) → (h ≡ Choose → ⊥)
@@ -34,7 +38,7 @@ module _ {P U B E X Y : Type 0} (grammar : Node → Option (Head U B)) where
     after_head : (h g : Head U B) (a b c : Walk P U B E X Y) (r : Option R) → ReadsHead grammar a b (Some h) → h ≡ g → c.row.now ≡ b.row.now → length c.nodes.now ≤ length b.nodes.now
         → ((k : ℕ) → length b.nodes.now ≤ k → found r (heads grammar (length a.row.now) c.nodes.now) ≡ seen (f a.row.now) (parse (suc k) (Some g ∷ heads grammar (length a.row.now) b.nodes.now)))
         → Reads grammar (λ w k hs. seen (f w) (parse k hs)) a c r
-    after_head h g a b c r d e s l go = record { same_row = s ∙ d.same_row; fewer = omega (arith, before.1); reads = at }
+    after_head h g a b c r d e s l go = record { same_row = s ∙ d.same_row; fewer = fewer_still r _ _ (omega (arith, before.1)); reads = at }
       where
         before : (heads grammar (length a.row.now) a.nodes.now ≡ Some h ∷ heads grammar (length a.row.now) b.nodes.now) × (length a.nodes.now ≡ suc (length b.nodes.now))
         before = stood grammar (length a.row.now) a.nodes.now b.nodes.now h d.moved d.stands
@@ -78,7 +82,7 @@ module _ {P U B E X Y : Type 0} (grammar : Node → Option (Head U B)) where
       -- the first part is a number
       module _ (x : X) (n : Reads grammar (numbers A) b c (Some x)) where
         pub read_unary : (u : U) (r : X) → h ≡ Unary u → r ≡ A.unary u x → Reads grammar (numbers A) a c (Some r)
-        read_unary u r e q = at_number (Unary u) c (Some r) e n.same_row n.fewer (λ k l. grind (arith, n.reads k, head.same_row))
+        read_unary u r e q = at_number (Unary u) c (Some r) e n.same_row (omega (arith, n.fewer)) (λ k l. grind (arith, n.reads k, head.same_row))
 
         module _ (d : Walk P U B E X Y) where
           pub half_binary : Reads grammar (numbers A) c d None → (f : B) → h ≡ Binary f → Reads grammar (numbers A) a d None

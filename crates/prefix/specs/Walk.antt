@@ -25,11 +25,16 @@ abbrev pub found : {H X : Type 0} → Option X → List H → Option (X × List 
 found None rest = None
 found (Some x) rest = Some (x, rest)
 
+-- what was read took nodes; where nothing was, there are no more than before
+abbrev pub Fewer : {R : Type 0} → ℕ → ℕ → Option R → Type 0
+Fewer after before None = after ≤ before
+Fewer after before (Some r) = after < before
+
 -- r is what N gives, over the row, of what the nodes before stand for, and the nodes after are left; at any depth that suffices.
 -- P is the pass, X and Y are what its numbers and truths give
 pub record Reads {P U B E X Y R : Type 0} (grammar : Node → Option (Head U B)) (N : List E → ℕ → List (Option (Head U B)) → Option (R × List (Option (Head U B)))) (before after : Walk P U B E X Y) (r : Option R) : Type 0 where
   pub same_row : after.row.now ≡ before.row.now
-  pub fewer : length after.nodes.now ≤ length before.nodes.now
+  pub fewer : Fewer (length after.nodes.now) (length before.nodes.now) r
   pub reads : (k : ℕ) → length before.nodes.now ≤ k
       → found r (heads grammar (length before.row.now) after.nodes.now) ≡ N before.row.now k (heads grammar (length before.row.now) before.nodes.now)
 
